@@ -1,0 +1,2 @@
+//! Networks of components joined by wires.
+#![tactic(auto)]
