@@ -1,0 +1,9 @@
+pub mod Tree
+pub mod Size
+pub mod Stored
+pub mod View
+pub mod Join
+pub mod Falls
+pub mod Limits
+pub mod Meaning
+pub mod Residual

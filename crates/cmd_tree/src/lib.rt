@@ -1,0 +1,13 @@
+//! Commands of trace theory as trees: names, symbols, bursts, choices, sequences, processes.
+//!
+//! A command is a list of processes that run woven with one another (Ebergen, Translating Programs into
+//! Delay-Insensitive Circuits, 1989). `specs/` says which traces a command has.
+#![tactic(auto)]
+
+mod command;
+mod name;
+mod tree;
+
+pub use command::Command;
+pub use name::{Name, NameSet};
+pub use tree::{Dir, Item, Mark, Proc, Seq, Sym};
