@@ -1,2 +1,5 @@
 pub mod Runs
-pub mod Webs
+pub mod Specs
+pub mod Wiring
+pub mod Tallies
+pub mod Networks

@@ -1,2 +1,8 @@
-//! Networks of components joined by wires.
+//! Networks of components joined by wires, and what they do under any delays.
 #![tactic(auto)]
+
+mod net;
+mod spec;
+
+pub use net::{Net, NetBuilder, Node};
+pub use spec::NodeSpec;
