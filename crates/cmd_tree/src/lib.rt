@@ -5,9 +5,11 @@
 #![tactic(auto)]
 
 mod command;
+mod marks;
 mod name;
 mod tree;
 
 pub use command::Command;
+pub use marks::all_marks;
 pub use name::{Name, NameSet};
 pub use tree::{Dir, Item, Mark, Proc, Seq, Sym};
