@@ -4,5 +4,5 @@
 mod net;
 mod spec;
 
-pub use net::{Net, NetBuilder, Node};
-pub use spec::NodeSpec;
+pub use net::{Net, NetBuilder, Node, OpenPort, closed};
+pub use spec::{NodeSpec, directions};

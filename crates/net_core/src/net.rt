@@ -1,5 +1,11 @@
-use crate::spec::NodeSpec;
-use std::alloc::Global;
+ghost use Rattle.std.specs.Prelude.{◌≡◌, ◌≢◌, ℕ, ◌+◌, ◌<◌, ◌≤◌, ◌^◌, true, false, not, [], ◌∷◌, ◌++◌, length, IfOk, OnErr, MatchOption};
+ghost use Rattle.std.specs.List.{AllByRecursion};
+ghost use Rattle.net_core.specs.Wiring.{Node, Circuit, Draft, Fits, IsOnce, IsClosed, picked, finished};
+ghost use Rattle.net_core.specs.Specs.{IsFormed};
+ghost use Rattle.net_core.specs.Tallies.{Added, Roomy};
+
+use crate::spec::{NodeSpec, directions};
+use std::alloc::{AllocError, Global};
 use std::marker::Model;
 
 /// A node of a network, with the wire at each of its ports.
@@ -10,10 +16,9 @@ pub struct Node {
 }
 
 impl Model for Node {
-    ghost use Rattle.net_core.specs.Wiring.{Node};
-
     ghost use Rattle.std.specs.Coded.{codes};
     ghost use Rattle.net_core.specs.contracts.spec.NodeSpec as node_spec;
+    ghost use Rattle.net_core.specs.Wiring.{Node};
 
     ghost Value = { Node };
 
@@ -29,6 +34,12 @@ struct Ends {
     receivers: u64,
 }
 
+/// A wire that has not one driver and one receiver.
+#[derive(Debug, Clone, Copy, PartialEq, Eq)]
+pub struct OpenPort {
+    pub wire: u32,
+}
+
 /// A network. Node 0 is the environment: it has its specification's ports with directions exchanged.
 /// Each node has one wire per port, below `wires`, and its kind is well formed.
 #[derive(Drop)]
@@ -39,10 +50,9 @@ pub struct Net {
 }
 
 impl Model for Net {
-    ghost use Rattle.net_core.specs.Wiring.{Circuit};
-
     ghost use Rattle.std.specs.Coded.{codes};
     ghost use Rattle.net_core.specs.contracts.spec.NodeSpec as node_spec;
+    ghost use Rattle.net_core.specs.Wiring.{Circuit};
 
     ghost Value = { Circuit };
 
@@ -62,13 +72,13 @@ pub struct NetBuilder {
     parts: Vec<Node>,
     wires: u32,
     ends: Vec<Ends>,
+    alloc: Global,
 }
 
 impl Model for NetBuilder {
-    ghost use Rattle.net_core.specs.Wiring.{Draft};
-
     ghost use Rattle.std.specs.Coded.{codes};
     ghost use Rattle.net_core.specs.contracts.spec.NodeSpec as node_spec;
+    ghost use Rattle.net_core.specs.Wiring.{Draft};
 
     ghost Value = { Draft };
 
@@ -78,5 +88,108 @@ impl Model for NetBuilder {
 
     ghost use Rattle.net_core.specs.Tallies.{KeptDraft};
 
-    ghost invariant = { λ a. KeptDraft a.parts.items a.wires a.ends.items };
+    ghost invariant = { λ a. KeptDraft a.spec a.parts.items a.wires a.ends.items };
+}
+
+/// Counts each wire at a port with these directions once more, exchanged for the environment.
+fn count_ends(ends: &mut [Ends], outs: &[bool], wires: &[u32], outside: bool)
+    requires sized { length wires.now ≡ length outs.now }
+    requires known { AllByRecursion (λ w. w < length ends.old) wires.now }
+    requires room { Roomy ends.old (length wires.now) }
+    ensures { Added ends.old ends.new (picked (not outside) outs.now wires.now) (picked outside outs.now wires.now) }
+{
+    for (port, wire) in wires.iter().enumerate() {
+        let end = &mut ends[*wire as usize];
+        if outs[port] != outside {
+            end.drivers += 1;
+        } else {
+            end.receivers += 1;
+        }
+    }
+}
+
+impl NetBuilder {
+    /// Begins a network whose environment has this specification.
+    pub fn new(alloc: Global, spec: NodeSpec) -> Result<NetBuilder, AllocError>
+        requires { IsFormed spec }
+        ensures { IfOk result (λ builder. builder ≡ record { spec = spec; parts = []; wires = 0 }) }
+    {
+        Ok(NetBuilder {
+            spec,
+            parts: Vec::new(alloc),
+            wires: 0,
+            ends: Vec::new(alloc),
+            alloc,
+        })
+    }
+
+    /// The next wire's number. After an error the builder is as before.
+    pub fn wire(&mut self) -> Result<u32, AllocError>
+        requires { self.old.wires + 1 < 2 ^ 32 }
+        ensures ok { IfOk result (λ w. (w ≡ self.old.wires) × (self.new ≡ record self.old { wires = self.old.wires + 1 })) }
+        ensures refused { OnErr result (self.new ≡ self.old) }
+    {
+        self.ends.push(Ends {
+            drivers: 0,
+            receivers: 0,
+        })?;
+        let wire = self.wires;
+        self.wires += 1;
+        Ok(wire)
+    }
+
+    /// Adds a component with these wires at its ports, and gives its number.
+    /// After an error the builder is as before.
+    pub fn node(&mut self, spec: NodeSpec, wires: Vec<u32>) -> Result<u32, AllocError>
+        requires fit { Fits self.old.wires (record { spec = spec; ends = wires.items }) }
+        requires few { length self.old.parts + 2 < 2 ^ 32 }
+        ensures ok { IfOk result (λ n. (n ≡ length self.old.parts + 1)
+            × (self.new ≡ record self.old { parts = self.old.parts ++ record { spec = spec; ends = wires.items } ∷ [] })) }
+        ensures refused { OnErr result (self.new ≡ self.old) }
+    {
+        let outs = directions(self.alloc, &spec)?;
+        self.parts.push(Node { spec, wires })?;
+        let last = self.parts.len() - 1;
+        let node = &self.parts[last];
+        count_ends(&mut self.ends, &outs, &node.wires, false);
+        Ok(last as u32 + 1)
+    }
+
+    /// The network whose environment has these wires at its ports.
+    pub fn finish(self, wires: Vec<u32>) -> Result<Net, AllocError>
+        requires { Fits self.wires (record { spec = self.spec; ends = wires.items }) }
+        ensures { IfOk result (λ net. net ≡ finished self wires.items) }
+    {
+        let NetBuilder {
+            spec,
+            parts,
+            wires: count,
+            mut ends,
+            alloc,
+        } = self;
+        let outs = directions(alloc, &spec)?;
+        count_ends(&mut ends, &outs, &wires, true);
+        let mut nodes = parts;
+        nodes.insert(0, Node { spec, wires })?;
+        Ok(Net {
+            nodes,
+            wires: count,
+            ends,
+        })
+    }
+}
+
+/// The least wire that has not one driver and one receiver, or None where each wire has.
+/// It takes no memory and one pass over the wires.
+pub fn closed(net: &Net) -> Option<OpenPort>
+    ensures { MatchOption result (IsClosed net.now) (λ x. (x.wire < net.now.wires) × (IsOnce net.now x.wire → ⊥)
+        × ((w : ℕ) → w < x.wire → IsOnce net.now w)) }
+{
+    for wire in 0..net.wires {
+        let end = net.ends[wire as usize];
+        if end.drivers != 1 || end.receivers != 1 {
+            return Some(OpenPort { wire });
+        }
+    }
+    None
 }

@@ -1,0 +1,4 @@
+pub mod Counting
+pub mod Tallying
+pub mod Drafts
+pub mod FirstMarks
