@@ -1,0 +1,2 @@
+pub mod Webs
+pub mod Told
