@@ -1,5 +1,6 @@
 -- Webs by the traces of their nodes: an invariant that each move keeps gives soundness, and moves that lead to each symbol give exactness.
 use Rattle.std.proofs.Common.{◌≡◌, ℕ, zero, suc, Bool, true, false, List, [], ◌∷◌, ◌++◌, ◌⊎◌, inl, inr, refl, sym, ap, subst, ◌∙◌, append_assoc, if◌then◌else◌}
+use Rattle.std.proofs.Common.{arith}
 use Rattle.std.proofs.lemmas.List.{append-nil}
 use Rattle.net_core.proofs.Webs.{Move, Send, Land, Web, Stage, grown, tally, naught, Follows, Decides, longer, marked, May, begin, next, next_all, Ready, Safe, Plays, WebSound, WebExact}
 
@@ -133,3 +134,205 @@ module _ (N W : Type 0) (d : Web N W) (l : Lawful N W d) where
       pub traces : (n : N) → May d n (s.trace n)
       pub free : (w : W) → s.busy w ≡ false → sent d s.trace w ≡ got d s.trace w
       pub full : (w : W) → s.busy w ≡ true → In w × (sent d s.trace w ≡ suc (got d s.trace w))
+
+    flow_at : (s : Stage N W) → Going s → (w : W) (b : Bool) → s.busy w ≡ b → (sent d s.trace w ≡ got d s.trace w) ⊎ (sent d s.trace w ≡ suc (got d s.trace w))
+    flow_at s g w false e = inl (g.free w e)
+    flow_at s g w true e = inr (g.full w e).1
+
+    flows : (s : Stage N W) → Going s → Flows (sent d s.trace) (got d s.trace)
+    flows s g w = flow_at s g w (s.busy w) refl
+
+    -- what the traces of a stage become when a wire is added at one node
+    longer_traces : (t : N → List W) (n : N) (w : W) → ((m : N) → May d m (t m)) → May d n (t n ++ w ∷ []) → (m : N) → May d m (longer d.same_node t n w m)
+    longer_traces t n w old new m = at (longer_is d.same_node l.nodes t n w m)
+      where
+        at : ((m ≡ n) × (longer d.same_node t n w m ≡ t m ++ w ∷ [])) ⊎ ((m ≡ n → ⊥) × (longer d.same_node t n w m ≡ t m)) → May d m (longer d.same_node t n w m)
+        at (inl (p, e)) = subst (λ x. May d m x) (sym e) (subst (λ k. May d k (t k ++ w ∷ [])) (sym p) new)
+        at (inr (p, e)) = subst (λ x. May d m x) (sym e) (old m)
+
+    module _ (k : Tends N W d In I) where
+      free_of : (s : Stage N W) → Going s → (w : W) → sent d s.trace w ≡ got d s.trace w → (b : Bool) → s.busy w ≡ b → s.busy w ≡ false
+      free_of s g w e false h = h
+      free_of s g w e true h = absurd (self_suc (sym e ∙ (g.full w h).1))
+        where
+          self_suc : got d s.trace w ≡ suc (got d s.trace w) → ⊥
+          self_suc x = omega arith
+
+      -- a wire that its driver may fire is free
+      send_free : (s : Stage N W) → Going s → (w : W) → d.rule (d.driver w) (s.trace (d.driver w)) w → s.busy w ≡ false
+      send_free s g w r = free_of s g w (k.sends s.trace w (flows s g) g.holds r).1 (s.busy w) refl
+
+      send_going : (s : Stage N W) → Going s → (w : W) → d.rule (d.driver w) (s.trace (d.driver w)) w → Going (next d s (Send w))
+      send_going s g w r = record {
+        holds = step.2 u more;
+        traces = longer_traces s.trace (d.driver w) w g.traces (follows_end (d.rule (d.driver w)) [] (s.trace (d.driver w)) w (g.traces (d.driver w)) r);
+        free = λ v e. at_free v e (marked_cases d.same_wire l.wires s.busy w true v);
+        full = λ v e. at_full v e (marked_cases d.same_wire l.wires s.busy w true v)
+      }
+        where
+          step : In w × (sent d s.trace w ≡ got d s.trace w) × ((u : N → List W) → Longer N W s.trace (d.driver w) w u → I u)
+          step = k.sends s.trace w (flows s g) g.holds r
+          u : N → List W
+          u = longer d.same_node s.trace (d.driver w) w
+          more : Longer N W s.trace (d.driver w) w u
+          more = longer_is d.same_node l.nodes s.trace (d.driver w) w
+          at_free : (v : W) → marked d.same_wire s.busy w true v ≡ false
+            → ((v ≡ w) × (marked d.same_wire s.busy w true v ≡ true)) ⊎ ((v ≡ w → ⊥) × (marked d.same_wire s.busy w true v ≡ s.busy v))
+            → sent d u v ≡ got d u v
+          at_free v e (inl (p, x)) = absurd (cc)
+          at_free v e (inr (p, x)) = count_other s.trace (d.driver w) w u more (d.driver v) v p ∙ g.free v (sym x ∙ e) ∙ sym (count_other s.trace (d.driver w) w u more (d.receiver v) v p)
+          here : sent d u w ≡ suc (got d u w)
+          here = count_more s.trace (d.driver w) w u more (d.driver w) refl
+            ∙ ap suc (step.1 ∙ sym (count_away s.trace (d.driver w) w u more (d.receiver w) (λ e. l.clean w (sym e)) w))
+          at_full : (v : W) → marked d.same_wire s.busy w true v ≡ true
+            → ((v ≡ w) × (marked d.same_wire s.busy w true v ≡ true)) ⊎ ((v ≡ w → ⊥) × (marked d.same_wire s.busy w true v ≡ s.busy v))
+            → In v × (sent d u v ≡ suc (got d u v))
+          at_full v e (inl (p, x)) = subst (λ y. In y × (sent d u y ≡ suc (got d u y))) (sym p) (step.0, here)
+          at_full v e (inr (p, x)) = ((g.full v (sym x ∙ e)).0,
+            count_other s.trace (d.driver w) w u more (d.driver v) v p ∙ (g.full v (sym x ∙ e)).1 ∙ ap suc (sym (count_other s.trace (d.driver w) w u more (d.receiver v) v p)))
+
+      -- the receiver of a busy wire may take it
+      land_rule : (s : Stage N W) → Going s → (w : W) → s.busy w ≡ true → d.rule (d.receiver w) (s.trace (d.receiver w)) w
+      land_rule s g w e = (k.lands s.trace w (flows s g) g.holds (g.full w e).0 (g.full w e).1).0
+
+      land_safe : (s : Stage N W) → Going s → (w : W) → s.busy w ≡ true → May d (d.receiver w) (s.trace (d.receiver w) ++ w ∷ [])
+      land_safe s g w e = follows_end (d.rule (d.receiver w)) [] (s.trace (d.receiver w)) w (g.traces (d.receiver w)) (land_rule s g w e)
+
+      land_going : (s : Stage N W) → Going s → (w : W) → s.busy w ≡ true → Going (next d s (Land w))
+      land_going s g w busy = record {
+        holds = (k.lands s.trace w (flows s g) g.holds (g.full w busy).0 (g.full w busy).1).1 u more;
+        traces = longer_traces s.trace (d.receiver w) w g.traces (land_safe s g w busy);
+        free = λ v e. at_free v e (marked_cases d.same_wire l.wires s.busy w false v);
+        full = λ v e. at_full v e (marked_cases d.same_wire l.wires s.busy w false v)
+      }
+        where
+          u : N → List W
+          u = longer d.same_node s.trace (d.receiver w) w
+          more : Longer N W s.trace (d.receiver w) w u
+          more = longer_is d.same_node l.nodes s.trace (d.receiver w) w
+          here : sent d u w ≡ got d u w
+          here = count_away s.trace (d.receiver w) w u more (d.driver w) (l.clean w) w ∙ (g.full w busy).1
+            ∙ sym (count_more s.trace (d.receiver w) w u more (d.receiver w) refl)
+          at_free : (v : W) → marked d.same_wire s.busy w false v ≡ false
+            → ((v ≡ w) × (marked d.same_wire s.busy w false v ≡ false)) ⊎ ((v ≡ w → ⊥) × (marked d.same_wire s.busy w false v ≡ s.busy v))
+            → sent d u v ≡ got d u v
+          at_free v e (inl (p, x)) = subst (λ y. sent d u y ≡ got d u y) (sym p) here
+          at_free v e (inr (p, x)) = count_other s.trace (d.receiver w) w u more (d.driver v) v p ∙ g.free v (sym x ∙ e) ∙ sym (count_other s.trace (d.receiver w) w u more (d.receiver v) v p)
+          at_full : (v : W) → marked d.same_wire s.busy w false v ≡ true
+            → ((v ≡ w) × (marked d.same_wire s.busy w false v ≡ false)) ⊎ ((v ≡ w → ⊥) × (marked d.same_wire s.busy w false v ≡ s.busy v))
+            → In v × (sent d u v ≡ suc (got d u v))
+          at_full v e (inl (p, x)) = absurd (cc)
+          at_full v e (inr (p, x)) = ((g.full v (sym x ∙ e)).0,
+            count_other s.trace (d.receiver w) w u more (d.driver v) v p ∙ (g.full v (sym x ∙ e)).1 ∙ ap suc (sym (count_other s.trace (d.receiver w) w u more (d.receiver v) v p)))
+
+      -- what is ready is safe, and the stage after it goes on
+      safe_one : (s : Stage N W) → Going s → (e : Move W) → Ready d s e → Safe d s e
+      safe_one s g (Send w) r = send_free s g w (follows_last (d.rule (d.driver w)) [] (s.trace (d.driver w)) w r)
+      safe_one s g (Land w) r = land_safe s g w r
+
+      going_one : (s : Stage N W) → Going s → (e : Move W) → Ready d s e → Going (next d s e)
+      going_one s g (Send w) r = send_going s g w (follows_last (d.rule (d.driver w)) [] (s.trace (d.driver w)) w r)
+      going_one s g (Land w) r = land_going s g w r
+
+      sound_from : (es : List (Move W)) (s : Stage N W) → Going s → Plays d s es → (e : Move W) → Ready d (next_all d s es) e → Safe d (next_all d s es) e
+      sound_from [] s g p e r = safe_one s g e r
+      sound_from (m ∷ es) s g p e r = sound_from es (next d s m) (going_one s g m p.0) p.2 e r
+
+      going_first : Going (begin d)
+      going_first = record { holds = k.begins; traces = λ n. tt; free = λ w e. refl; full = λ w e. absurd (cc) }
+
+      pub sound_of : WebSound d
+      sound_of es p e r = sound_from es (begin d) going_first p e r
+
+      -- a run from a stage to the wanted trace of the outside
+      abbrev Out : List W → Stage N W → Type 0
+      Out a s = (es : List (Move W)) × Plays d s es × ((next_all d s es).trace d.outside ≡ a)
+
+      first : (a : List W) (s : Stage N W) (e : Move W) → Ready d s e → Safe d s e → Out a (next d s e) → Out a s
+      first a s e r h o = (e ∷ o.0, (r, h, o.1), o.2)
+
+      abbrev Idle : Stage N W → Type 0
+      Idle s = (w : W) → s.busy w ≡ false
+
+      -- the stage after a wire was fired and handed over
+      abbrev through : Stage N W → W → Stage N W
+      through s w = next d (next d s (Send w)) (Land w)
+
+      through_busy : (s : Stage N W) (w : W) → (next d s (Send w)).busy w ≡ true
+      through_busy s w = at (marked_cases d.same_wire l.wires s.busy w true w)
+        where
+          at : ((w ≡ w) × (marked d.same_wire s.busy w true w ≡ true)) ⊎ ((w ≡ w → ⊥) × (marked d.same_wire s.busy w true w ≡ s.busy w)) → marked d.same_wire s.busy w true w ≡ true
+          at (inl (p, e)) = e
+          at (inr (p, e)) = absurd (p refl)
+
+      through_going : (s : Stage N W) → Going s → (w : W) → d.rule (d.driver w) (s.trace (d.driver w)) w → Going (through s w)
+      through_going s g w r = land_going (next d s (Send w)) (send_going s g w r) w (through_busy s w)
+
+      through_idle : (s : Stage N W) → Idle s → (w : W) → Idle (through s w)
+      through_idle s h w v = at (marked_cases d.same_wire l.wires (next d s (Send w)).busy w false v) (marked_cases d.same_wire l.wires s.busy w true v)
+        where
+          b : W → Bool
+          b = marked d.same_wire s.busy w true
+          at : ((v ≡ w) × (marked d.same_wire b w false v ≡ false)) ⊎ ((v ≡ w → ⊥) × (marked d.same_wire b w false v ≡ b v))
+            → ((v ≡ w) × (b v ≡ true)) ⊎ ((v ≡ w → ⊥) × (b v ≡ s.busy v)) → marked d.same_wire b w false v ≡ false
+          at (inl (p, e)) q = e
+          at (inr (p, e)) (inl (q, x)) = absurd (p q)
+          at (inr (p, e)) (inr (q, x)) = e ∙ x ∙ h v
+
+      through_went : (s : Stage N W) (w : W) → Went N W d s.trace w (through s w).trace
+      through_went s w = ((next d s (Send w)).trace, longer_is d.same_node l.nodes s.trace (d.driver w) w,
+        longer_is d.same_node l.nodes (next d s (Send w)).trace (d.receiver w) w)
+
+      through_out : (a : List W) (s : Stage N W) → Going s → (w : W) → d.rule (d.driver w) (s.trace (d.driver w)) w → Out a (through s w) → Out a s
+      through_out a s g w r o = first a s (Send w)
+        (follows_end (d.rule (d.driver w)) [] (s.trace (d.driver w)) w (g.traces (d.driver w)) r) (send_free s g w r)
+        (first a (next d s (Send w)) (Land w) (through_busy s w) (land_safe (next d s (Send w)) (send_going s g w r) w (through_busy s w)) o)
+
+      went_inner : (t : N → List W) (w : W) (u : N → List W) → Went N W d t w u → (d.driver w ≡ d.outside → ⊥) → (d.receiver w ≡ d.outside → ⊥) → u d.outside ≡ t d.outside
+      went_inner t w u h a c = longer_away h.0 (d.receiver w) w u h.2 d.outside (λ e. c (sym e)) ∙ longer_away t (d.driver w) w h.0 h.1 d.outside (λ e. a (sym e))
+
+      went_outer : (t : N → List W) (w : W) (u : N → List W) → Went N W d t w u → (d.driver w ≡ d.outside) ⊎ (d.receiver w ≡ d.outside) → u d.outside ≡ t d.outside ++ w ∷ []
+      went_outer t w u h (inl e) = longer_away h.0 (d.receiver w) w u h.2 d.outside (λ x. l.clean w (e ∙ x)) ∙ longer_at t (d.driver w) w h.0 h.1 d.outside (sym e)
+      went_outer t w u h (inr e) = longer_at h.0 (d.receiver w) w u h.2 d.outside (sym e)
+        ∙ ap (λ x. x ++ w ∷ []) (longer_away t (d.driver w) w h.0 h.1 d.outside (λ x. l.clean w (sym x ∙ sym e)))
+
+      module _ (J : (N → List W) → Type 0) where
+        -- a stage between two symbols
+        pub record Rest (s : Stage N W) : Type 0 where
+          pub going : Going s
+          pub idle : Idle s
+          pub good : J s.trace
+
+        serve : (a : List W) (q : W) (t : N → List W) → Leads N W d I J q t → (b : W → Bool) → Going (record { trace = t; busy = b }) → ((w : W) → b w ≡ false)
+          → ((s : Stage N W) → Rest s → s.trace d.outside ≡ t d.outside ++ q ∷ [] → Out a s) → Out a (record { trace = t; busy = b })
+        serve a q t (pulls w x y r f) b g h c =
+          let s : Stage N W = record { trace = t; busy = b } in
+          let going : Going (through s w) = through_going s g w r in
+          through_out a s g w r (serve a q (through s w).trace (f (through s w).trace (through_went s w) going.holds) (through s w).busy going (through_idle s h w)
+            (λ z rest e. c z rest (e ∙ ap (λ i. i ++ q ∷ []) (went_inner t w (through s w).trace (through_went s w) x y))))
+        serve a q t (ends x r f) b g h c =
+          let s : Stage N W = record { trace = t; busy = b } in
+          let going : Going (through s q) = through_going s g q r in
+          through_out a s g q r (c (through s q)
+            (record { going = going; idle = through_idle s h q; good = f (through s q).trace (through_went s q) going.holds })
+            (went_outer t q (through s q).trace (through_went s q) x))
+
+        module _ (leads : (t : N → List W) (q : W) → I t → J t → ((v : W) → sent d t v ≡ got d t v) → d.rule d.outside (t d.outside) q → Leads N W d I J q t) where
+          exact_from : (a : List W) (s : Stage N W) → Rest s → Follows (d.rule d.outside) (s.trace d.outside) a → Out (s.trace d.outside ++ a) s
+          exact_from [] s h f = ([], tt, sym (append-nil (s.trace d.outside)))
+          exact_from (q ∷ a) s h f = serve (s.trace d.outside ++ q ∷ a) q s.trace
+            (leads s.trace q h.going.holds h.good (λ v. h.going.free v (h.idle v)) f.0) s.busy h.going h.idle
+            (λ z rest e. subst (λ x. Out x z) (ap (λ i. i ++ a) e ∙ append_assoc (s.trace d.outside) (q ∷ []) a)
+              (exact_from a z rest (subst (λ i. Follows (d.rule d.outside) i a) (sym e) f.1)))
+
+          pub exact_of : J (λ n. []) → WebExact d
+          exact_of j a f = exact_from a (begin d) (record { going = going_first; idle = λ w. refl; good = j }) f
+
+-- An invariant that each move keeps gives soundness.
+pub web_sound : (N W : Type 0) (d : Web N W) (In : W → Type 0) (I : (N → List W) → Type 0) → Lawful N W d → Tends N W d In I → WebSound d
+web_sound N W d In I l k = sound_of N W d l In I k
+
+-- Where moreover inner wires lead to each symbol that the outside may do, each of its traces is seen.
+pub web_exact : (N W : Type 0) (d : Web N W) (In : W → Type 0) (I J : (N → List W) → Type 0) → Lawful N W d → Tends N W d In I → J (λ n. [])
+  → ((t : N → List W) (q : W) → I t → J t → ((v : W) → sent d t v ≡ got d t v) → d.rule d.outside (t d.outside) q → Leads N W d I J q t) → WebExact d
+web_exact N W d In I J l k j h = exact_of N W d l In I k J h j
