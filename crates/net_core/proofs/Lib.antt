@@ -1,2 +1,3 @@
 pub mod Webs
 pub mod Told
+pub mod Woven
