@@ -3,3 +3,5 @@ pub mod Webs
 pub mod Told
 pub mod Woven
 pub mod Named
+pub mod RoundsRule
+pub mod Rounds

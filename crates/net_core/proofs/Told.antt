@@ -12,6 +12,10 @@ pub follows_last : {W : Type 0} (a : List W → W → Type 0) (b t : List W) (w 
 follows_last a b [] w f = subst (λ l. a l w) (sym (append-nil b)) f.0
 follows_last a b (v ∷ t) w f = subst (λ l. a l w) (append_assoc b (v ∷ []) t) (follows_last a (b ++ v ∷ []) t w f.1)
 
+pub follows_start : {W : Type 0} (a : List W → W → Type 0) (b t : List W) (w : W) → Follows a b (t ++ w ∷ []) → Follows a b t
+follows_start a b [] w f = tt
+follows_start a b (v ∷ t) w f = (f.0, follows_start a (b ++ v ∷ []) t w f.1)
+
 pub tally_end : {W : Type 0} (same : W → W → Bool) (c : W → ℕ) (t : List W) (w : W) → tally same c (t ++ w ∷ []) ≡ grown same (tally same c t) w
 tally_end same c [] w = refl
 tally_end same c (v ∷ t) w = tally_end same (grown same c v) t w
