@@ -3,5 +3,7 @@ pub mod Webs
 pub mod Told
 pub mod Woven
 pub mod Named
+pub mod Relabel
 pub mod RoundsRule
 pub mod Rounds
+pub mod RoundsNets
