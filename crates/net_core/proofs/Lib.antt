@@ -2,6 +2,7 @@ pub mod Updates
 pub mod Webs
 pub mod Told
 pub mod Woven
+pub mod Totals
 pub mod Named
 pub mod Relabel
 pub mod RoundsRule
