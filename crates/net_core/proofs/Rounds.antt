@@ -1,9 +1,8 @@
 -- The web of one component by the rule of rounds and the web of a join and a spread in a row: sound and exact, for any numbers of inputs and outputs.
-use Rattle.std.proofs.Common.{◌≡◌, ℕ, zero, suc, ◌+◌, ◌<◌, ◌≤◌, ◌==◌, Bool, List, [], ◌∷◌, ◌++◌, ◌⊎◌, inl, inr, refl, sym, ap, subst, arith}
+use Rattle.std.proofs.Common.{◌≡◌, ℕ, zero, suc, ◌<◌, ◌≤◌, Bool, ◌⊎◌, inl, inr, refl, sym, ap, subst, arith}
 use Rattle.std.proofs.lemmas.Bool.{cases_lt}
-use Rattle.std.proofs.lemmas.Bool.Decides.{eqb_tells}
 use native.Mathlib.Decide.{ℕ_discrete}
-use Rattle.net_core.proofs.Webs.{Web, tally, naught, Decides, test, test_decides, WebSound, WebExact}
+use Rattle.net_core.proofs.Webs.{Web, same_number, numbers_decide, tally, naught, Decides, test, test_decides, WebSound, WebExact}
 use Rattle.net_core.proofs.Told.{Lawful, Flows}
 use Rattle.net_core.proofs.Woven.{Grew, grew_same, grew_le, grew_other, Reads, Counting, Keeps, Draws, pull, give, show, web_sound, web_exact}
 
@@ -17,14 +16,8 @@ pub data Wire : Type 0 where
 abbrev pub same_wire : Wire → Wire → Bool
 same_wire = test (wire_discrete ℕ_discrete)
 
-abbrev pub same_number : ℕ → ℕ → Bool
-same_number a b = a == b
-
 pub wires_decide : Decides same_wire
 wires_decide = test_decides (wire_discrete ℕ_discrete)
-
-pub numbers_decide : Decides same_number
-numbers_decide a b = eqb_tells a b
 
 -- the rule of rounds with n inputs and m outputs
 abbrev pub AtRounds : ℕ → ℕ → (Wire → ℕ) → Wire → Type 0
@@ -49,6 +42,7 @@ abbrev pub one_driver : Wire → ℕ
 one_driver (In i) = 0
 one_driver (Out j) = 1
 one_driver Mid = 0
+
 abbrev pub one_receiver : Wire → ℕ
 one_receiver (In i) = 1
 one_receiver (Out j) = 0
@@ -59,8 +53,12 @@ OneRule n m k c w = AtRounds n m c w
 
 abbrev pub one_web : ℕ → ℕ → Web ℕ Wire
 one_web n m = record {
-  same_node = same_number; same_wire = same_wire; driver = one_driver; receiver = one_receiver; outside = 0;
-  rule = λ k t w. OneRule n m k (tally same_wire naught t) w
+  same_node = same_number;
+  same_wire = same_wire;
+  driver = one_driver;
+  receiver = one_receiver;
+  outside = 0;
+  rule = λ k t w. OneRule n m k (tally same_wire naught t) w;
 }
 
 -- A join and a spread.
@@ -68,6 +66,7 @@ abbrev pub two_driver : Wire → ℕ
 two_driver (In i) = 0
 two_driver (Out j) = 2
 two_driver Mid = 1
+
 abbrev pub two_receiver : Wire → ℕ
 two_receiver (In i) = 1
 two_receiver (Out j) = 0
@@ -80,8 +79,12 @@ TwoRule n m (suc (suc k)) c w = AtSpread m c w
 
 abbrev pub two_web : ℕ → ℕ → Web ℕ Wire
 two_web n m = record {
-  same_node = same_number; same_wire = same_wire; driver = two_driver; receiver = two_receiver; outside = 0;
-  rule = λ k t w. TwoRule n m k (tally same_wire naught t) w
+  same_node = same_number;
+  same_wire = same_wire;
+  driver = two_driver;
+  receiver = two_receiver;
+  outside = 0;
+  rule = λ k t w. TwoRule n m k (tally same_wire naught t) w;
 }
 
 module _ (n m : ℕ) (some_in : 0 < n) (some_out : 0 < m) where
@@ -107,29 +110,38 @@ module _ (n m : ℕ) (some_in : 0 < n) (some_out : 0 < m) where
     col : (i j : ℕ) → i < n → j < m → F (Out j) ≤ P (In i)
 
   one_sends : (F P c : Wire → ℕ) (w : Wire) → Flows F P → One F P → Reads ℕ Wire (one_web n m) (one_driver w) c F P → OneRule n m (one_driver w) c w
-    → OneIn w × (F w ≡ P w) × ((G : Wire → ℕ) → Grew F w G → One G P)
-  one_sends F P c (In i) f h a r = (r.0, omega (arith, h.col i 0 r.0 some_out, r.1 0 some_out, a.sent (In i) refl, a.got (Out 0) refl, f (Out 0), f (In i)),
-      λ G g. record { row = λ k j x y. row G g k j x y (g (In k)); col = λ k j x y. subst (λ z. z ≤ P (In k)) (sym (grew_other F (In i) G g (Out j) (λ e. cc))) (h.col k j x y) })
+      → OneIn w × (F w ≡ P w) × ((G : Wire → ℕ) → Grew F w G → One G P)
+  one_sends F P c (In i) f h a r = (
+    r.0,
+    omega (arith, h.col i 0 r.0 some_out, r.1 0 some_out, a.sent (In i) refl, a.got (Out 0) refl, f (Out 0), f (In i)),
+    λ G g. record { row = λ k j x y. row G g k j x y (g (In k)); col = λ k j x y. subst (λ z. z ≤ P (In k)) (sym (grew_other F (In i) G g (Out j) (λ e. cc))) (h.col k j x y) },
+  )
     where
       row : (G : Wire → ℕ) → Grew F (In i) G → (k j : ℕ) → k < n → j < m
-        → ((In k ≡ In i) × (G (In k) ≡ suc (F (In k)))) ⊎ ((In k ≡ In i → ⊥) × (G (In k) ≡ F (In k))) → G (In k) ≤ suc (P (Out j))
+          → ((In k ≡ In i) × (G (In k) ≡ suc (F (In k)))) ⊎ ((In k ≡ In i → ⊥) × (G (In k) ≡ F (In k))) → G (In k) ≤ suc (P (Out j))
       row G g k j x y (inl (p, e)) = omega (arith, ap F p, r.1 j y, a.sent (In i) refl, a.got (Out j) refl)
       row G g k j x y (inr (p, e)) = omega (arith, h.row k j x y)
-  one_sends F P c (Out j) f h a r = (r.0, omega (arith, h.row 0 j some_in r.0, r.1 0 some_in, a.sent (Out j) refl, a.got (In 0) refl, f (Out j), f (In 0)),
-      λ G g. record { row = λ i k x y. subst (λ z. z ≤ suc (P (Out k))) (sym (grew_other F (Out j) G g (In i) (λ e. cc))) (h.row i k x y); col = λ i k x y. col G g i k x y (g (Out k)) })
+  one_sends F P c (Out j) f h a r = (
+    r.0,
+    omega (arith, h.row 0 j some_in r.0, r.1 0 some_in, a.sent (Out j) refl, a.got (In 0) refl, f (Out j), f (In 0)),
+    λ G g. record { row = λ i k x y. subst (λ z. z ≤ suc (P (Out k))) (sym (grew_other F (Out j) G g (In i) (λ e. cc))) (h.row i k x y); col = λ i k x y. col G g i k x y (g (Out k)) },
+  )
     where
       col : (G : Wire → ℕ) → Grew F (Out j) G → (i k : ℕ) → i < n → k < m
-        → ((Out k ≡ Out j) × (G (Out k) ≡ suc (F (Out k)))) ⊎ ((Out k ≡ Out j → ⊥) × (G (Out k) ≡ F (Out k))) → G (Out k) ≤ P (In i)
+          → ((Out k ≡ Out j) × (G (Out k) ≡ suc (F (Out k)))) ⊎ ((Out k ≡ Out j → ⊥) × (G (Out k) ≡ F (Out k))) → G (Out k) ≤ P (In i)
       col G g i k x y (inl (p, e)) = omega (arith, ap F p, r.1 i x, a.sent (Out j) refl, a.got (In i) refl)
       col G g i k x y (inr (p, e)) = omega (arith, h.col i k x y)
   one_sends F P c Mid f h a r = absurd r
 
   one_lands : (F P c : Wire → ℕ) (w : Wire) → Flows F P → One F P → Reads ℕ Wire (one_web n m) (one_receiver w) c F P → OneIn w → F w ≡ suc (P w)
-    → OneRule n m (one_receiver w) c w × ((Q : Wire → ℕ) → Grew P w Q → One F Q)
-  one_lands F P c w f h a x e = (takes w x e a, λ Q g. record {
+      → OneRule n m (one_receiver w) c w × ((Q : Wire → ℕ) → Grew P w Q → One F Q)
+  one_lands F P c w f h a x e = (
+    takes w x e a,
+    λ Q g. record {
       row = λ i j x y. omega (arith, h.row i j x y, grew_le P w Q g (Out j));
-      col = λ i j x y. omega (arith, h.col i j x y, grew_le P w Q g (In i))
-    })
+      col = λ i j x y. omega (arith, h.col i j x y, grew_le P w Q g (In i));
+    },
+  )
     where
       takes : (w : Wire) → OneIn w → F w ≡ suc (P w) → Reads ℕ Wire (one_web n m) (one_receiver w) c F P → OneRule n m (one_receiver w) c w
       takes (In i) x e a = (x, λ j y. omega (arith, h.row i j x y, h.col i j x y, f (Out j), a.got (In i) refl, a.sent (Out j) refl))
@@ -139,7 +151,8 @@ module _ (n m : ℕ) (some_in : 0 < n) (some_out : 0 < m) where
   one_keeps : Keeps ℕ Wire (one_web n m) (OneRule n m) OneIn One
   one_keeps = record {
     begins = λ F P f p. record { row = λ i j x y. omega (arith, f (In i)); col = λ i j x y. omega (arith, f (Out j)) };
-    sends = one_sends; lands = one_lands
+    sends = one_sends;
+    lands = one_lands;
   }
 
   abbrev Always : (Wire → ℕ) → Type 0
@@ -178,51 +191,60 @@ module _ (n m : ℕ) (some_in : 0 < n) (some_out : 0 < m) where
     col : (j : ℕ) → j < m → F (Out j) ≤ P Mid
 
   two_sends : (F P c : Wire → ℕ) (w : Wire) → Flows F P → Two F P → Reads ℕ Wire (two_web n m) (two_driver w) c F P → TwoRule n m (two_driver w) c w
-    → TwoIn w × (F w ≡ P w) × ((G : Wire → ℕ) → Grew F w G → Two G P)
-  two_sends F P c (In i) f h a r = (r.0,
-      omega (arith, h.mid i r.0, h.col 0 some_out, r.1 0 some_out, a.sent (In i) refl, a.got (Out 0) refl, f (Out 0), f (In i), f Mid),
-      λ G g. record {
-        row = λ k j x y. row G g k j x y (g (In k));
-        mid = λ k x. subst (λ z. z ≤ P (In k)) (sym (grew_other F (In i) G g Mid (λ e. cc))) (h.mid k x);
-        col = λ j y. subst (λ z. z ≤ P Mid) (sym (grew_other F (In i) G g (Out j) (λ e. cc))) (h.col j y)
-      })
+      → TwoIn w × (F w ≡ P w) × ((G : Wire → ℕ) → Grew F w G → Two G P)
+  two_sends F P c (In i) f h a r = (
+    r.0,
+    omega (arith, h.mid i r.0, h.col 0 some_out, r.1 0 some_out, a.sent (In i) refl, a.got (Out 0) refl, f (Out 0), f (In i), f Mid),
+    λ G g. record {
+      row = λ k j x y. row G g k j x y (g (In k));
+      mid = λ k x. subst (λ z. z ≤ P (In k)) (sym (grew_other F (In i) G g Mid (λ e. cc))) (h.mid k x);
+      col = λ j y. subst (λ z. z ≤ P Mid) (sym (grew_other F (In i) G g (Out j) (λ e. cc))) (h.col j y);
+    },
+  )
     where
       row : (G : Wire → ℕ) → Grew F (In i) G → (k j : ℕ) → k < n → j < m
-        → ((In k ≡ In i) × (G (In k) ≡ suc (F (In k)))) ⊎ ((In k ≡ In i → ⊥) × (G (In k) ≡ F (In k))) → G (In k) ≤ suc (P (Out j))
+          → ((In k ≡ In i) × (G (In k) ≡ suc (F (In k)))) ⊎ ((In k ≡ In i → ⊥) × (G (In k) ≡ F (In k))) → G (In k) ≤ suc (P (Out j))
       row G g k j x y (inl (p, e)) = omega (arith, ap F p, r.1 j y, a.sent (In i) refl, a.got (Out j) refl)
       row G g k j x y (inr (p, e)) = omega (arith, h.row k j x y)
-  two_sends F P c (Out j) f h a r = (r.0,
-      omega (arith, r.1, a.sent (Out j) refl, a.got Mid refl, f Mid, h.mid 0 some_in, f (In 0), h.row 0 j some_in r.0, f (Out j)),
-      λ G g. record {
-        row = λ i k x y. subst (λ z. z ≤ suc (P (Out k))) (sym (grew_other F (Out j) G g (In i) (λ e. cc))) (h.row i k x y);
-        mid = λ k x. subst (λ z. z ≤ P (In k)) (sym (grew_other F (Out j) G g Mid (λ e. cc))) (h.mid k x);
-        col = λ k y. col G g k y (g (Out k))
-      })
+  two_sends F P c (Out j) f h a r = (
+    r.0,
+    omega (arith, r.1, a.sent (Out j) refl, a.got Mid refl, f Mid, h.mid 0 some_in, f (In 0), h.row 0 j some_in r.0, f (Out j)),
+    λ G g. record {
+      row = λ i k x y. subst (λ z. z ≤ suc (P (Out k))) (sym (grew_other F (Out j) G g (In i) (λ e. cc))) (h.row i k x y);
+      mid = λ k x. subst (λ z. z ≤ P (In k)) (sym (grew_other F (Out j) G g Mid (λ e. cc))) (h.mid k x);
+      col = λ k y. col G g k y (g (Out k));
+    },
+  )
     where
       col : (G : Wire → ℕ) → Grew F (Out j) G → (k : ℕ) → k < m
-        → ((Out k ≡ Out j) × (G (Out k) ≡ suc (F (Out k)))) ⊎ ((Out k ≡ Out j → ⊥) × (G (Out k) ≡ F (Out k))) → G (Out k) ≤ P Mid
+          → ((Out k ≡ Out j) × (G (Out k) ≡ suc (F (Out k)))) ⊎ ((Out k ≡ Out j → ⊥) × (G (Out k) ≡ F (Out k))) → G (Out k) ≤ P Mid
       col G g k y (inl (p, e)) = omega (arith, ap F p, r.1, a.sent (Out j) refl, a.got Mid refl)
       col G g k y (inr (p, e)) = omega (arith, h.col k y)
-  two_sends F P c Mid f h a r = (tt,
-      omega (arith, r 0 some_in, a.sent Mid refl, a.got (In 0) refl, f (In 0), h.row 0 0 some_in some_out, f (Out 0), h.col 0 some_out, f Mid),
-      λ G g. record {
-        row = λ i k x y. subst (λ z. z ≤ suc (P (Out k))) (sym (grew_other F Mid G g (In i) (λ e. cc))) (h.row i k x y);
-        mid = λ k x. mid G g k x (g Mid);
-        col = λ j y. subst (λ z. z ≤ P Mid) (sym (grew_other F Mid G g (Out j) (λ e. cc))) (h.col j y)
-      })
+  two_sends F P c Mid f h a r = (
+    tt,
+    omega (arith, r 0 some_in, a.sent Mid refl, a.got (In 0) refl, f (In 0), h.row 0 0 some_in some_out, f (Out 0), h.col 0 some_out, f Mid),
+    λ G g. record {
+      row = λ i k x y. subst (λ z. z ≤ suc (P (Out k))) (sym (grew_other F Mid G g (In i) (λ e. cc))) (h.row i k x y);
+      mid = λ k x. mid G g k x (g Mid);
+      col = λ j y. subst (λ z. z ≤ P Mid) (sym (grew_other F Mid G g (Out j) (λ e. cc))) (h.col j y);
+    },
+  )
     where
       mid : (G : Wire → ℕ) → Grew F Mid G → (k : ℕ) → k < n
-        → ((Mid ≡ Mid) × (G Mid ≡ suc (F Mid))) ⊎ ((Mid ≡ Mid → ⊥) × (G Mid ≡ F Mid)) → G Mid ≤ P (In k)
+          → ((Mid ≡ Mid) × (G Mid ≡ suc (F Mid))) ⊎ ((Mid ≡ Mid → ⊥) × (G Mid ≡ F Mid)) → G Mid ≤ P (In k)
       mid G g k x (inl (p, e)) = omega (arith, r k x, a.sent Mid refl, a.got (In k) refl)
       mid G g k x (inr (p, e)) = absurd (p refl)
 
   two_lands : (F P c : Wire → ℕ) (w : Wire) → Flows F P → Two F P → Reads ℕ Wire (two_web n m) (two_receiver w) c F P → TwoIn w → F w ≡ suc (P w)
-    → TwoRule n m (two_receiver w) c w × ((Q : Wire → ℕ) → Grew P w Q → Two F Q)
-  two_lands F P c w f h a x e = (takes w x e a, λ Q g. record {
+      → TwoRule n m (two_receiver w) c w × ((Q : Wire → ℕ) → Grew P w Q → Two F Q)
+  two_lands F P c w f h a x e = (
+    takes w x e a,
+    λ Q g. record {
       row = λ i j x y. omega (arith, h.row i j x y, grew_le P w Q g (Out j));
       mid = λ i x. omega (arith, h.mid i x, grew_le P w Q g (In i));
-      col = λ j y. omega (arith, h.col j y, grew_le P w Q g Mid)
-    })
+      col = λ j y. omega (arith, h.col j y, grew_le P w Q g Mid);
+    },
+  )
     where
       takes : (w : Wire) → TwoIn w → F w ≡ suc (P w) → Reads ℕ Wire (two_web n m) (two_receiver w) c F P → TwoRule n m (two_receiver w) c w
       takes (In i) x e a = (x, omega (arith, h.mid i x, h.row i 0 x some_out, f (Out 0), h.col 0 some_out, f Mid, a.got (In i) refl, a.sent Mid refl))
@@ -232,7 +254,8 @@ module _ (n m : ℕ) (some_in : 0 < n) (some_out : 0 < m) where
   two_keeps : Keeps ℕ Wire (two_web n m) (TwoRule n m) TwoIn Two
   two_keeps = record {
     begins = λ F P f p. record { row = λ i j x y. omega (arith, f (In i)); mid = λ i x. omega (arith, f Mid); col = λ j y. omega (arith, f (Out j)) };
-    sends = two_sends; lands = two_lands
+    sends = two_sends;
+    lands = two_lands;
   }
 
   -- the spread gives an output that lags behind Mid
@@ -245,10 +268,11 @@ module _ (n m : ℕ) (some_in : 0 < n) (some_out : 0 < m) where
     where
       lag : (i : ℕ) → i < n → x (Out o) < x (In i)
       lag i y = omega (arith, r.1 i y, a.got (Out o) refl, a.sent (In i) refl)
+
       at : (x (Out o) < x Mid) ⊎ (x Mid ≤ x (Out o)) → Draws ℕ Wire (two_web n m) (TwoRule n m) Two Always (Out o) x
       at (inl e) = two_show x o r.0 e
       at (inr e) = pull Mid (λ z. omega arith) (λ z. omega arith) (λ b z i y. omega (arith, lag i y, z.sent Mid refl, z.got (In i) refl))
-        (λ y g k. two_show y o r.0 (omega (arith, h.col o r.0, grew_other x Mid y g (Out o) (λ z. cc), grew_le x Mid y g Mid, grew_same x Mid y g Mid refl)))
+          (λ y g k. two_show y o r.0 (omega (arith, h.col o r.0, grew_other x Mid y g (Out o) (λ z. cc), grew_le x Mid y g Mid, grew_same x Mid y g Mid refl)))
   two_draws x c Mid h j a r = absurd r
 
   pub two_sound : WebSound (two_web n m)

@@ -1,12 +1,12 @@
 -- The networks of numbers for the two webs of rounds: one component, and a join before a spread.
-use Rattle.std.proofs.Common.{◌≡◌, ℕ, zero, suc, ◌+◌, ◌-◌, ◌<◌, ◌≤◌, ◌==◌, ltb, Bool, true, false, List, [], ◌∷◌, ◌++◌, map, ◌⊎◌, ◌↔◌, inl, inr, refl, sym, ap, subst, ◌∙◌, arith, if◌then◌else◌, eq-eqb, ne_eqb, lt-ltb, le-ltb}
+use Rattle.std.proofs.Common.{◌≡◌, ℕ, zero, suc, ◌+◌, ◌-◌, ◌<◌, ◌≤◌, ◌==◌, ltb, List, map, ◌⊎◌, ◌↔◌, inl, inr, refl, sym, ap, subst, ◌∙◌, arith, if◌then◌else◌, eq-eqb, ne_eqb, lt-ltb, le-ltb}
 use Rattle.std.proofs.lemmas.Bool.{cases_lt, cases_eq}
 use Rattle.net_core.specs.Runs.{Fabric, Sound, Exact}
-use Rattle.net_core.proofs.Webs.{May}
+use Rattle.net_core.proofs.Webs.{May, same_number, numbers_decide}
 use Rattle.net_core.proofs.Named.{Names, named_sound, named_exact, one_by_one}
 use Rattle.net_core.proofs.Relabel.{relabel, relabel_back}
-use Rattle.net_core.proofs.RoundsRule.{RoundsAt, Rounds, same_port}
-use Rattle.net_core.proofs.Rounds.{Wire, In, Out, Mid, same_wire, wires_decide, numbers_decide, AtRounds, AtJoin, AtSpread, one_web, one_driver, one_receiver, one_lawful, one_sound, one_exact, two_web, two_driver, two_receiver, two_lawful, two_sound, two_exact}
+use Rattle.net_core.proofs.RoundsRule.{RoundsAt, Rounds}
+use Rattle.net_core.proofs.Rounds.{Wire, In, Out, Mid, same_wire, wires_decide, AtRounds, AtJoin, AtSpread, one_web, one_driver, one_receiver, one_lawful, one_sound, one_exact, two_web, two_driver, two_receiver, two_lawful, two_sound, two_exact}
 
 -- the wire at port p of a node with n inputs by the rule of rounds
 abbrev pub port : ℕ → ℕ → Wire
@@ -29,7 +29,7 @@ port_one : (n p q : ℕ) → port n p ≡ port n q → p ≡ q
 port_one n p q e = at (port_cases n p) (port_cases n q)
   where
     at : ((p < n) × (port n p ≡ In p)) ⊎ ((j : ℕ) × (p ≡ n + j) × (port n p ≡ Out j))
-      → ((q < n) × (port n q ≡ In q)) ⊎ ((j : ℕ) × (q ≡ n + j) × (port n q ≡ Out j)) → p ≡ q
+        → ((q < n) × (port n q ≡ In q)) ⊎ ((j : ℕ) × (q ≡ n + j) × (port n q ≡ Out j)) → p ≡ q
     at (inl (x, y)) (inl (z, w)) = cc
     at (inl (x, y)) (inr (j, z, w)) = absurd (cc)
     at (inr (i, x, y)) (inl (z, w)) = absurd (cc)
@@ -46,7 +46,7 @@ module _ (n m : ℕ) (c : ℕ → ℕ) (e : Wire → ℕ) (h : (a : ℕ) → c a
   rounds_there p r = at (port_cases n p) r
     where
       at : ((p < n) × (port n p ≡ In p)) ⊎ ((j : ℕ) × (p ≡ n + j) × (port n p ≡ Out j))
-        → ((p < n) × ((j : ℕ) → j < m → c p ≡ c (n + j))) ⊎ ((n ≤ p) × (p < n + m) × ((i : ℕ) → i < n → c p < c i)) → AtRounds n m e (port n p)
+          → ((p < n) × ((j : ℕ) → j < m → c p ≡ c (n + j))) ⊎ ((n ≤ p) × (p < n + m) × ((i : ℕ) → i < n → c p < c i)) → AtRounds n m e (port n p)
       at (inl (x, y)) (inl (z, w)) = subst (λ v. AtRounds n m e v) (sym y) (x, λ j k. sym (at_in p x) ∙ w j k ∙ at_out j)
       at (inl (x, y)) (inr (z, w, u)) = absurd (omega arith)
       at (inr (j, x, y)) (inl (z, w)) = absurd (omega arith)
@@ -58,13 +58,13 @@ module _ (n m : ℕ) (c : ℕ → ℕ) (e : Wire → ℕ) (h : (a : ℕ) → c a
       at : ((p < n) × (port n p ≡ In p)) ⊎ ((j : ℕ) × (p ≡ n + j) × (port n p ≡ Out j)) → RoundsAt n m c p
       at (inl (x, y)) = let s : AtRounds n m e (In p) = subst (λ v. AtRounds n m e v) y r in inl (x, λ j k. at_in p x ∙ s.1 j k ∙ sym (at_out j))
       at (inr (j, x, y)) = let s : AtRounds n m e (Out j) = subst (λ v. AtRounds n m e v) y r in
-        inr (omega arith, omega (arith, s.0), λ i k. omega (arith, s.1 i k, ap c x, at_in i k, at_out j))
+          inr (omega arith, omega (arith, s.0), λ i k. omega (arith, s.1 i k, ap c x, at_in i k, at_out j))
 
 named_there : (n m : ℕ) (t : List ℕ) → Rounds n m t → May (one_web n m) 0 (map (port n) t)
-named_there n m t f = relabel same_port same_wire numbers_decide wires_decide (port n) (port_one n) (RoundsAt n m) (AtRounds n m) (rounds_there n m) t f
+named_there n m t f = relabel same_number same_wire numbers_decide wires_decide (port n) (port_one n) (RoundsAt n m) (AtRounds n m) (rounds_there n m) t f
 
 named_here : (n m : ℕ) (t : List ℕ) → May (one_web n m) 0 (map (port n) t) → Rounds n m t
-named_here n m t f = relabel_back same_port same_wire numbers_decide wires_decide (port n) (port_one n) (RoundsAt n m) (AtRounds n m) (rounds_here n m) t f
+named_here n m t f = relabel_back same_number same_wire numbers_decide wires_decide (port n) (port_one n) (RoundsAt n m) (AtRounds n m) (rounds_here n m) t f
 
 -- One component with n inputs and m outputs by the rule of rounds, node 1, in an environment by the same rule. Wire p joins port p of the one to port p of the other.
 pub record OneRounds (f : Fabric) (n m : ℕ) : Type 0 where
@@ -101,31 +101,39 @@ module _ (f : Fabric) (n m : ℕ) (o : OneRounds f n m) where
   one_names : Names ℕ Wire (one_web n m) f
   unfolding one_number
   one_names = record {
-    name = λ k. k; label = λ k p. port n p; number = one_number; size = 2; some = omega arith; outside = refl;
+    name = λ k. k;
+    label = λ k p. port n p;
+    number = one_number;
+    size = 2;
+    some = omega arith;
+    outside = refl;
     fires = one_each (λ k p. (k < 2) × (one_driver (port n p) ≡ k) × (f.wire k p ≡ one_number (port n p)))
-      (λ p x. (omega arith, ap one_driver (port_in n p x), o.env_wire p x ∙ ap one_number (sym (port_in n p x))))
-      (λ j x. (omega arith, ap one_driver (port_out n j), o.part_wire (n + j) (omega arith) (omega arith) ∙ ap one_number (sym (port_out n j))));
+        (λ p x. (omega arith, ap one_driver (port_in n p x), o.env_wire p x ∙ ap one_number (sym (port_in n p x))))
+        (λ j x. (omega arith, ap one_driver (port_out n j), o.part_wire (n + j) (omega arith) (omega arith) ∙ ap one_number (sym (port_out n j))));
     lands = one_each (λ k p. (f.to (f.wire k p) < 2) × (one_receiver (port n p) ≡ f.to (f.wire k p)) × (port n (f.into (f.wire k p)) ≡ port n p))
-      (λ p x. let e : f.to (f.wire 0 p) ≡ 1 = ap f.to (o.env_wire p x) ∙ o.in_to p x in
+        (λ p x. let e : f.to (f.wire 0 p) ≡ 1 = ap f.to (o.env_wire p x) ∙ o.in_to p x in
         (omega arith, ap one_receiver (port_in n p x) ∙ sym e, ap (port n) (ap f.into (o.env_wire p x) ∙ o.in_into p x)))
-      (λ j x. let a : n ≤ n + j = omega arith in let b : n + j < n + m = omega arith in
+        (λ j x. let a : n ≤ n + j = omega arith in let b : n + j < n + m = omega arith in
         let e : f.to (f.wire 1 (n + j)) ≡ 0 = ap f.to (o.part_wire (n + j) a b) ∙ o.out_to (n + j) a b in
         (omega arith, ap one_receiver (port_out n j) ∙ sym e, ap (port n) (ap f.into (o.part_wire (n + j) a b) ∙ o.out_into (n + j) a b)));
     one_wire = λ k p l q a b e. ap (port n) (sym (one_wire_is k p a) ∙ e ∙ one_wire_is l q b);
     one_node = λ a b x y e. e;
     drives = drives;
-    may = may; may_back = may_back;
-    one_trace = λ t u x y e. one_by_one (port n) (port_one n) t u e
+    may = may;
+    may_back = may_back;
+    one_trace = λ t u x y e. one_by_one (port n) (port_one n) t u e;
   }
     where
       drives : (w : Wire) (t : List Wire) → (one_web n m).rule (one_driver w) t w → (k : ℕ) × (p : ℕ) × f.fires k p × (port n p ≡ w)
       drives (In i) t r = (0, i, o.env_fires i r.0, port_in n i r.0)
       drives (Out j) t r = (1, n + j, o.part_fires (n + j) (omega arith) (omega (arith, r.0)), port_out n j)
       drives Mid t r = absurd r
+
       may : (k : ℕ) → k < 2 → (t : List ℕ) → f.may k t → May (one_web n m) k (map (port n) t)
       may zero h t x = named_there n m t ((o.env_may t).0 x)
       may (suc zero) h t x = named_there n m t ((o.part_may t).0 x)
       may (suc (suc k)) h t x = absurd (omega arith)
+
       may_back : (k : ℕ) → k < 2 → (t : List ℕ) → May (one_web n m) k (map (port n) t) → f.may k t
       may_back zero h t x = (o.env_may t).1 (named_here n m t x)
       may_back (suc zero) h t x = (o.part_may t).1 (named_here n m t x)
@@ -168,7 +176,7 @@ join_one : (n p q : ℕ) → join_port n p ≡ join_port n q → p ≡ q
 join_one n p q e = at (join_cases n p) (join_cases n q)
   where
     at : ((p < n) × (join_port n p ≡ In p)) ⊎ (((p ≡ n) × (join_port n p ≡ Mid)) ⊎ ((n < p) × (join_port n p ≡ Out p)))
-      → ((q < n) × (join_port n q ≡ In q)) ⊎ (((q ≡ n) × (join_port n q ≡ Mid)) ⊎ ((n < q) × (join_port n q ≡ Out q))) → p ≡ q
+        → ((q < n) × (join_port n q ≡ In q)) ⊎ (((q ≡ n) × (join_port n q ≡ Mid)) ⊎ ((n < q) × (join_port n q ≡ Out q))) → p ≡ q
     at (inl (x, y)) (inl (z, w)) = cc
     at (inl (x, y)) (inr (inl (z, w))) = absurd (cc)
     at (inl (x, y)) (inr (inr (z, w))) = absurd (cc)
@@ -196,7 +204,7 @@ module _ (n : ℕ) (c : ℕ → ℕ) (e : Wire → ℕ) (h : (a : ℕ) → c a �
   join_there p r = at (join_cases n p) r
     where
       at : ((p < n) × (join_port n p ≡ In p)) ⊎ (((p ≡ n) × (join_port n p ≡ Mid)) ⊎ ((n < p) × (join_port n p ≡ Out p)))
-        → ((p < n) × ((j : ℕ) → j < 1 → c p ≡ c (n + j))) ⊎ ((n ≤ p) × (p < n + 1) × ((i : ℕ) → i < n → c p < c i)) → AtJoin n e (join_port n p)
+          → ((p < n) × ((j : ℕ) → j < 1 → c p ≡ c (n + j))) ⊎ ((n ≤ p) × (p < n + 1) × ((i : ℕ) → i < n → c p < c i)) → AtJoin n e (join_port n p)
       at (inl (x, y)) (inl (z, w)) = subst (λ v. AtJoin n e v) (sym y) (x, sym (join_at_in p x) ∙ w 0 (omega arith) ∙ ap c (omega arith) ∙ join_at_mid)
       at (inl (x, y)) (inr (z, w, u)) = absurd (omega arith)
       at (inr (inl (x, y))) (inl (z, w)) = absurd (omega arith)
@@ -209,9 +217,9 @@ module _ (n : ℕ) (c : ℕ → ℕ) (e : Wire → ℕ) (h : (a : ℕ) → c a �
     where
       at : ((p < n) × (join_port n p ≡ In p)) ⊎ (((p ≡ n) × (join_port n p ≡ Mid)) ⊎ ((n < p) × (join_port n p ≡ Out p))) → RoundsAt n 1 c p
       at (inl (x, y)) = let s : AtJoin n e (In p) = subst (λ v. AtJoin n e v) y r in
-        inl (x, λ j k. join_at_in p x ∙ s.1 ∙ sym join_at_mid ∙ ap c (omega arith))
+          inl (x, λ j k. join_at_in p x ∙ s.1 ∙ sym join_at_mid ∙ ap c (omega arith))
       at (inr (inl (x, y))) = let s : AtJoin n e Mid = subst (λ v. AtJoin n e v) y r in
-        inr (omega arith, omega arith, λ i k. omega (arith, s i k, ap c x, join_at_in i k, join_at_mid))
+          inr (omega arith, omega arith, λ i k. omega (arith, s i k, ap c x, join_at_in i k, join_at_mid))
       at (inr (inr (x, y))) = absurd (subst (λ v. AtJoin n e v) y r)
 
 module _ (m : ℕ) (c : ℕ → ℕ) (e : Wire → ℕ) (h : (a : ℕ) → c a ≡ e (spread_port a)) where
@@ -291,48 +299,56 @@ module _ (f : Fabric) (n m : ℕ) (o : JoinSpread f n m) where
 
   two_fires : (k p : ℕ) → f.fires k p → (k < 3) × (two_driver (two_label k p) ≡ k) × (f.wire k p ≡ two_number (two_label k p))
   two_fires = two_each (λ k p. (k < 3) × (two_driver (two_label k p) ≡ k) × (f.wire k p ≡ two_number (two_label k p)))
-    (λ p x. (omega arith, ap two_driver (port_in n p x), o.env_wire p x ∙ ap two_number (sym (port_in n p x))))
-    (omega arith, ap two_driver (join_mid n), o.join_wire ∙ ap two_number (sym (join_mid n)))
-    (λ j x. (omega arith, refl, o.spread_wire j x))
+      (λ p x. (omega arith, ap two_driver (port_in n p x), o.env_wire p x ∙ ap two_number (sym (port_in n p x))))
+      (omega arith, ap two_driver (join_mid n), o.join_wire ∙ ap two_number (sym (join_mid n)))
+      (λ j x. (omega arith, refl, o.spread_wire j x))
 
   two_lands : (k p : ℕ) → f.fires k p → (f.to (f.wire k p) < 3) × (two_receiver (two_label k p) ≡ f.to (f.wire k p))
-    × (two_label (f.to (f.wire k p)) (f.into (f.wire k p)) ≡ two_label k p)
+      × (two_label (f.to (f.wire k p)) (f.into (f.wire k p)) ≡ two_label k p)
   two_lands = two_each (λ k p. (f.to (f.wire k p) < 3) × (two_receiver (two_label k p) ≡ f.to (f.wire k p)) × (two_label (f.to (f.wire k p)) (f.into (f.wire k p)) ≡ two_label k p))
-    (λ p x. let e : f.to (f.wire 0 p) ≡ 1 = ap f.to (o.env_wire p x) ∙ o.in_to p x in
+      (λ p x. let e : f.to (f.wire 0 p) ≡ 1 = ap f.to (o.env_wire p x) ∙ o.in_to p x in
       let i : f.into (f.wire 0 p) ≡ p = ap f.into (o.env_wire p x) ∙ o.in_into p x in
       (omega arith, ap two_receiver (port_in n p x) ∙ sym e, ap (λ z. two_label z (f.into (f.wire 0 p))) e ∙ ap (join_port n) i ∙ join_in n p x ∙ sym (port_in n p x)))
-    (let e : f.to (f.wire 1 n) ≡ 2 = ap f.to o.join_wire ∙ o.mid_to in
+      (let e : f.to (f.wire 1 n) ≡ 2 = ap f.to o.join_wire ∙ o.mid_to in
       let i : f.into (f.wire 1 n) ≡ 0 = ap f.into o.join_wire ∙ o.mid_into in
       (omega arith, ap two_receiver (join_mid n) ∙ sym e, ap (λ z. two_label z (f.into (f.wire 1 n))) e ∙ ap spread_port i ∙ sym (join_mid n)))
-    (λ j x. let e : f.to (f.wire 2 (suc j)) ≡ 0 = ap f.to (o.spread_wire j x) ∙ o.out_to j x in
+      (λ j x. let e : f.to (f.wire 2 (suc j)) ≡ 0 = ap f.to (o.spread_wire j x) ∙ o.out_to j x in
       let i : f.into (f.wire 2 (suc j)) ≡ n + j = ap f.into (o.spread_wire j x) ∙ o.out_into j x in
       (omega arith, sym e, ap (λ z. two_label z (f.into (f.wire 2 (suc j)))) e ∙ ap (port n) i ∙ port_out n j))
 
   two_names : Names ℕ Wire (two_web n m) f
   two_names = record {
-    name = λ k. k; label = two_label; number = two_number; size = 3; some = omega arith; outside = refl;
+    name = λ k. k;
+    label = two_label;
+    number = two_number;
+    size = 3;
+    some = omega arith;
+    outside = refl;
     fires = two_fires;
     lands = two_lands;
     one_wire = λ k p l q a b e. number_one (two_label k p) (two_label l q) (two_real k p a) (two_real l q b) (sym (two_fires k p a).2 ∙ e ∙ (two_fires l q b).2);
     one_node = λ a b x y e. e;
     drives = drives;
-    may = may; may_back = may_back;
-    one_trace = λ t u x y e. one_by_one (port n) (port_one n) t u e
+    may = may;
+    may_back = may_back;
+    one_trace = λ t u x y e. one_by_one (port n) (port_one n) t u e;
   }
     where
       drives : (w : Wire) (t : List Wire) → (two_web n m).rule (two_driver w) t w → (k : ℕ) × (p : ℕ) × f.fires k p × (two_label k p ≡ w)
       drives (In i) t r = (0, i, o.env_fires i r.0, port_in n i r.0)
       drives (Out j) t r = (2, suc j, o.spread_fires j r.0, refl)
       drives Mid t r = (1, n, o.join_fires, join_mid n)
+
       may : (k : ℕ) → k < 3 → (t : List ℕ) → f.may k t → May (two_web n m) k (map (two_label k) t)
       may zero h t x = named_there n m t ((o.env_may t).0 x)
-      may (suc zero) h t x = relabel same_port same_wire numbers_decide wires_decide (join_port n) (join_one n) (RoundsAt n 1) (AtJoin n) (join_there n) t ((o.join_may t).0 x)
-      may (suc (suc zero)) h t x = relabel same_port same_wire numbers_decide wires_decide spread_port spread_one (RoundsAt 1 m) (AtSpread m) (spread_there m) t ((o.spread_may t).0 x)
+      may (suc zero) h t x = relabel same_number same_wire numbers_decide wires_decide (join_port n) (join_one n) (RoundsAt n 1) (AtJoin n) (join_there n) t ((o.join_may t).0 x)
+      may (suc (suc zero)) h t x = relabel same_number same_wire numbers_decide wires_decide spread_port spread_one (RoundsAt 1 m) (AtSpread m) (spread_there m) t ((o.spread_may t).0 x)
       may (suc (suc (suc k))) h t x = absurd (omega arith)
+
       may_back : (k : ℕ) → k < 3 → (t : List ℕ) → May (two_web n m) k (map (two_label k) t) → f.may k t
       may_back zero h t x = (o.env_may t).1 (named_here n m t x)
-      may_back (suc zero) h t x = (o.join_may t).1 (relabel_back same_port same_wire numbers_decide wires_decide (join_port n) (join_one n) (RoundsAt n 1) (AtJoin n) (join_here n) t x)
-      may_back (suc (suc zero)) h t x = (o.spread_may t).1 (relabel_back same_port same_wire numbers_decide wires_decide spread_port spread_one (RoundsAt 1 m) (AtSpread m) (spread_here m) t x)
+      may_back (suc zero) h t x = (o.join_may t).1 (relabel_back same_number same_wire numbers_decide wires_decide (join_port n) (join_one n) (RoundsAt n 1) (AtJoin n) (join_here n) t x)
+      may_back (suc (suc zero)) h t x = (o.spread_may t).1 (relabel_back same_number same_wire numbers_decide wires_decide spread_port spread_one (RoundsAt 1 m) (AtSpread m) (spread_here m) t x)
       may_back (suc (suc (suc k))) h t x = absurd (omega arith)
 
 -- A join before a spread is sound and exact in the environment by the rule of rounds.

@@ -1,14 +1,11 @@
 -- The rule of rounds, by how often each port has come. A node with n inputs and then m outputs takes each input once and then gives each output once, and so on.
-use Rattle.std.proofs.Common.{◌≡◌, ℕ, zero, suc, ◌+◌, ◌<◌, ◌≤◌, ◌==◌, Bool, List, [], ◌∷◌, ◌++◌, ◌⊎◌}
-use Rattle.net_core.proofs.Webs.{tally, naught, Follows}
+use Rattle.std.proofs.Common.{◌≡◌, ℕ, ◌+◌, ◌<◌, ◌≤◌, List, [], ◌∷◌, ◌++◌, ◌⊎◌}
+use Rattle.net_core.proofs.Webs.{same_number, tally, naught, Follows}
 use Rattle.net_core.proofs.Told.{follows_end, follows_last, follows_start}
-
-abbrev pub same_port : ℕ → ℕ → Bool
-same_port p q = p == q
 
 -- how often each port is in a trace
 abbrev pub counts : List ℕ → ℕ → ℕ
-counts t = tally same_port naught t
+counts t = tally same_number naught t
 
 -- Where the counts are c, the port p may come. An input may where no output lags behind it, an output where it lags behind each input.
 abbrev pub RoundsAt : ℕ → ℕ → (ℕ → ℕ) → ℕ → Type 0

@@ -1,5 +1,5 @@
 -- Webs by the traces of their nodes: an invariant that each move keeps gives soundness, and moves that lead to each symbol give exactness.
-use Rattle.std.proofs.Common.{◌≡◌, ℕ, zero, suc, Bool, true, false, List, [], ◌∷◌, ◌++◌, ◌⊎◌, inl, inr, refl, sym, ap, subst, ◌∙◌, append_assoc, if◌then◌else◌}
+use Rattle.std.proofs.Common.{◌≡◌, ℕ, suc, Bool, true, false, List, [], ◌∷◌, ◌++◌, ◌⊎◌, inl, inr, refl, sym, ap, subst, ◌∙◌, append_assoc}
 use Rattle.std.proofs.Common.{arith}
 use Rattle.std.proofs.lemmas.List.{append-nil}
 use Rattle.net_core.proofs.Webs.{Move, Send, Land, Web, Stage, grown, tally, naught, Follows, Decides, longer, marked, May, begin, next, next_all, Ready, Safe, Plays, WebSound, WebExact}
@@ -21,7 +21,7 @@ tally_end same c [] w = refl
 tally_end same c (v ∷ t) w = tally_end same (grown same c v) t w
 
 pub grown_cases : {W : Type 0} (same : W → W → Bool) → Decides same → (c : W → ℕ) (w v : W)
-  → ((v ≡ w) × (grown same c w v ≡ suc (c v))) ⊎ ((v ≡ w → ⊥) × (grown same c w v ≡ c v))
+    → ((v ≡ w) × (grown same c w v ≡ suc (c v))) ⊎ ((v ≡ w → ⊥) × (grown same c w v ≡ c v))
 grown_cases same h c w v = at (h v w)
   where
     at : ((same v w ≡ true) × (v ≡ w)) ⊎ ((same v w ≡ false) × (v ≡ w → ⊥)) → ((v ≡ w) × (grown same c w v ≡ suc (c v))) ⊎ ((v ≡ w → ⊥) × (grown same c w v ≡ c v))
@@ -29,7 +29,7 @@ grown_cases same h c w v = at (h v w)
     at (inr (e, p)) = inr (p, rw e refl)
 
 pub marked_cases : {W : Type 0} (same : W → W → Bool) → Decides same → (b : W → Bool) (w : W) (x : Bool) (v : W)
-  → ((v ≡ w) × (marked same b w x v ≡ x)) ⊎ ((v ≡ w → ⊥) × (marked same b w x v ≡ b v))
+    → ((v ≡ w) × (marked same b w x v ≡ x)) ⊎ ((v ≡ w → ⊥) × (marked same b w x v ≡ b v))
 marked_cases same h b w x v = at (h v w)
   where
     at : ((same v w ≡ true) × (v ≡ w)) ⊎ ((same v w ≡ false) × (v ≡ w → ⊥)) → ((v ≡ w) × (marked same b w x v ≡ x)) ⊎ ((v ≡ w → ⊥) × (marked same b w x v ≡ b v))
@@ -44,7 +44,7 @@ pub longer_is : {N W : Type 0} (same : N → N → Bool) → Decides same → (t
 longer_is same h t n w m = at (h m n)
   where
     at : ((same m n ≡ true) × (m ≡ n)) ⊎ ((same m n ≡ false) × (m ≡ n → ⊥))
-      → ((m ≡ n) × (longer same t n w m ≡ t m ++ w ∷ [])) ⊎ ((m ≡ n → ⊥) × (longer same t n w m ≡ t m))
+        → ((m ≡ n) × (longer same t n w m ≡ t m ++ w ∷ [])) ⊎ ((m ≡ n → ⊥) × (longer same t n w m ≡ t m))
     at (inl (e, p)) = inl (p, rw e refl)
     at (inr (e, p)) = inr (p, rw e refl)
 
@@ -71,6 +71,7 @@ pub record Lawful (N W : Type 0) (d : Web N W) : Type 0 where
 -- how often a wire was fired, and how often it was handed over
 abbrev pub sent : {N W : Type 0} → Web N W → (N → List W) → W → ℕ
 sent d t w = tally d.same_wire naught (t (d.driver w)) w
+
 abbrev pub got : {N W : Type 0} → Web N W → (N → List W) → W → ℕ
 got d t w = tally d.same_wire naught (t (d.receiver w)) w
 
@@ -82,9 +83,9 @@ Flows {W} F P = (w : W) → (F w ≡ P w) ⊎ (F w ≡ suc (P w))
 pub record Tends (N W : Type 0) (d : Web N W) (In : W → Type 0) (I : (N → List W) → Type 0) : Type 0 where
   pub begins : I (λ n. [])
   pub sends : (t : N → List W) (w : W) → Flows (sent d t) (got d t) → I t → d.rule (d.driver w) (t (d.driver w)) w
-    → In w × (sent d t w ≡ got d t w) × ((u : N → List W) → Longer N W t (d.driver w) w u → I u)
+      → In w × (sent d t w ≡ got d t w) × ((u : N → List W) → Longer N W t (d.driver w) w u → I u)
   pub lands : (t : N → List W) (w : W) → Flows (sent d t) (got d t) → I t → In w → sent d t w ≡ suc (got d t w)
-    → d.rule (d.receiver w) (t (d.receiver w)) w × ((u : N → List W) → Longer N W t (d.receiver w) w u → I u)
+      → d.rule (d.receiver w) (t (d.receiver w)) w × ((u : N → List W) → Longer N W t (d.receiver w) w u → I u)
 
 -- u is t with w added at its driver and at its receiver
 abbrev pub Went : (N W : Type 0) → Web N W → (N → List W) → W → (N → List W) → Type 0
@@ -93,9 +94,9 @@ Went N W d t w u = (v : N → List W) × Longer N W t (d.driver w) w v × Longer
 -- From the traces t some inner wires, each fired and handed over at once, lead to the symbol q, after which J holds again.
 pub data Leads (N W : Type 0) (d : Web N W) (I J : (N → List W) → Type 0) (q : W) : (N → List W) → Type 0 where
   pulls : {t : N → List W} (w : W) → (d.driver w ≡ d.outside → ⊥) → (d.receiver w ≡ d.outside → ⊥) → d.rule (d.driver w) (t (d.driver w)) w
-    → ((u : N → List W) → Went N W d t w u → I u → Leads N W d I J q u) → Leads N W d I J q t
+      → ((u : N → List W) → Went N W d t w u → I u → Leads N W d I J q u) → Leads N W d I J q t
   ends : {t : N → List W} → (d.driver q ≡ d.outside) ⊎ (d.receiver q ≡ d.outside) → d.rule (d.driver q) (t (d.driver q)) q
-    → ((u : N → List W) → Went N W d t q u → I u → J u) → Leads N W d I J q t
+      → ((u : N → List W) → Went N W d t q u → I u → J u) → Leads N W d I J q t
 
 module _ (N W : Type 0) (d : Web N W) (l : Lawful N W d) where
   -- how often a wire is in a trace
@@ -106,7 +107,7 @@ module _ (N W : Type 0) (d : Web N W) (l : Lawful N W d) where
   times_end t w = ap (λ c. c w) (tally_end d.same_wire naught t w) ∙ at (grown_cases d.same_wire l.wires (times t) w w)
     where
       at : ((w ≡ w) × (grown d.same_wire (times t) w w ≡ suc (times t w))) ⊎ ((w ≡ w → ⊥) × (grown d.same_wire (times t) w w ≡ times t w))
-        → grown d.same_wire (times t) w w ≡ suc (times t w)
+          → grown d.same_wire (times t) w w ≡ suc (times t w)
       at (inl (p, e)) = e
       at (inr (p, e)) = absurd (p refl)
 
@@ -114,7 +115,7 @@ module _ (N W : Type 0) (d : Web N W) (l : Lawful N W d) where
   times_other t w v h = ap (λ c. c v) (tally_end d.same_wire naught t w) ∙ at (grown_cases d.same_wire l.wires (times t) w v)
     where
       at : ((v ≡ w) × (grown d.same_wire (times t) w v ≡ suc (times t v))) ⊎ ((v ≡ w → ⊥) × (grown d.same_wire (times t) w v ≡ times t v))
-        → grown d.same_wire (times t) w v ≡ times t v
+          → grown d.same_wire (times t) w v ≡ times t v
       at (inl (p, e)) = absurd (h p)
       at (inr (p, e)) = e
 
@@ -171,29 +172,36 @@ module _ (N W : Type 0) (d : Web N W) (l : Lawful N W d) where
         holds = step.2 u more;
         traces = longer_traces s.trace (d.driver w) w g.traces (follows_end (d.rule (d.driver w)) [] (s.trace (d.driver w)) w (g.traces (d.driver w)) r);
         free = λ v e. at_free v e (marked_cases d.same_wire l.wires s.busy w true v);
-        full = λ v e. at_full v e (marked_cases d.same_wire l.wires s.busy w true v)
+        full = λ v e. at_full v e (marked_cases d.same_wire l.wires s.busy w true v);
       }
         where
           step : In w × (sent d s.trace w ≡ got d s.trace w) × ((u : N → List W) → Longer N W s.trace (d.driver w) w u → I u)
           step = k.sends s.trace w (flows s g) g.holds r
+
           u : N → List W
           u = longer d.same_node s.trace (d.driver w) w
+
           more : Longer N W s.trace (d.driver w) w u
           more = longer_is d.same_node l.nodes s.trace (d.driver w) w
+
           at_free : (v : W) → marked d.same_wire s.busy w true v ≡ false
-            → ((v ≡ w) × (marked d.same_wire s.busy w true v ≡ true)) ⊎ ((v ≡ w → ⊥) × (marked d.same_wire s.busy w true v ≡ s.busy v))
-            → sent d u v ≡ got d u v
+              → ((v ≡ w) × (marked d.same_wire s.busy w true v ≡ true)) ⊎ ((v ≡ w → ⊥) × (marked d.same_wire s.busy w true v ≡ s.busy v))
+              → sent d u v ≡ got d u v
           at_free v e (inl (p, x)) = absurd (cc)
           at_free v e (inr (p, x)) = count_other s.trace (d.driver w) w u more (d.driver v) v p ∙ g.free v (sym x ∙ e) ∙ sym (count_other s.trace (d.driver w) w u more (d.receiver v) v p)
+
           here : sent d u w ≡ suc (got d u w)
           here = count_more s.trace (d.driver w) w u more (d.driver w) refl
-            ∙ ap suc (step.1 ∙ sym (count_away s.trace (d.driver w) w u more (d.receiver w) (λ e. l.clean w (sym e)) w))
+              ∙ ap suc (step.1 ∙ sym (count_away s.trace (d.driver w) w u more (d.receiver w) (λ e. l.clean w (sym e)) w))
+
           at_full : (v : W) → marked d.same_wire s.busy w true v ≡ true
-            → ((v ≡ w) × (marked d.same_wire s.busy w true v ≡ true)) ⊎ ((v ≡ w → ⊥) × (marked d.same_wire s.busy w true v ≡ s.busy v))
-            → In v × (sent d u v ≡ suc (got d u v))
+              → ((v ≡ w) × (marked d.same_wire s.busy w true v ≡ true)) ⊎ ((v ≡ w → ⊥) × (marked d.same_wire s.busy w true v ≡ s.busy v))
+              → In v × (sent d u v ≡ suc (got d u v))
           at_full v e (inl (p, x)) = subst (λ y. In y × (sent d u y ≡ suc (got d u y))) (sym p) (step.0, here)
-          at_full v e (inr (p, x)) = ((g.full v (sym x ∙ e)).0,
-            count_other s.trace (d.driver w) w u more (d.driver v) v p ∙ (g.full v (sym x ∙ e)).1 ∙ ap suc (sym (count_other s.trace (d.driver w) w u more (d.receiver v) v p)))
+          at_full v e (inr (p, x)) = (
+            (g.full v (sym x ∙ e)).0,
+            count_other s.trace (d.driver w) w u more (d.driver v) v p ∙ (g.full v (sym x ∙ e)).1 ∙ ap suc (sym (count_other s.trace (d.driver w) w u more (d.receiver v) v p)),
+          )
 
       -- the receiver of a busy wire may take it
       land_rule : (s : Stage N W) → Going s → (w : W) → s.busy w ≡ true → d.rule (d.receiver w) (s.trace (d.receiver w)) w
@@ -207,27 +215,33 @@ module _ (N W : Type 0) (d : Web N W) (l : Lawful N W d) where
         holds = (k.lands s.trace w (flows s g) g.holds (g.full w busy).0 (g.full w busy).1).1 u more;
         traces = longer_traces s.trace (d.receiver w) w g.traces (land_safe s g w busy);
         free = λ v e. at_free v e (marked_cases d.same_wire l.wires s.busy w false v);
-        full = λ v e. at_full v e (marked_cases d.same_wire l.wires s.busy w false v)
+        full = λ v e. at_full v e (marked_cases d.same_wire l.wires s.busy w false v);
       }
         where
           u : N → List W
           u = longer d.same_node s.trace (d.receiver w) w
+
           more : Longer N W s.trace (d.receiver w) w u
           more = longer_is d.same_node l.nodes s.trace (d.receiver w) w
+
           here : sent d u w ≡ got d u w
           here = count_away s.trace (d.receiver w) w u more (d.driver w) (l.clean w) w ∙ (g.full w busy).1
-            ∙ sym (count_more s.trace (d.receiver w) w u more (d.receiver w) refl)
+              ∙ sym (count_more s.trace (d.receiver w) w u more (d.receiver w) refl)
+
           at_free : (v : W) → marked d.same_wire s.busy w false v ≡ false
-            → ((v ≡ w) × (marked d.same_wire s.busy w false v ≡ false)) ⊎ ((v ≡ w → ⊥) × (marked d.same_wire s.busy w false v ≡ s.busy v))
-            → sent d u v ≡ got d u v
+              → ((v ≡ w) × (marked d.same_wire s.busy w false v ≡ false)) ⊎ ((v ≡ w → ⊥) × (marked d.same_wire s.busy w false v ≡ s.busy v))
+              → sent d u v ≡ got d u v
           at_free v e (inl (p, x)) = subst (λ y. sent d u y ≡ got d u y) (sym p) here
           at_free v e (inr (p, x)) = count_other s.trace (d.receiver w) w u more (d.driver v) v p ∙ g.free v (sym x ∙ e) ∙ sym (count_other s.trace (d.receiver w) w u more (d.receiver v) v p)
+
           at_full : (v : W) → marked d.same_wire s.busy w false v ≡ true
-            → ((v ≡ w) × (marked d.same_wire s.busy w false v ≡ false)) ⊎ ((v ≡ w → ⊥) × (marked d.same_wire s.busy w false v ≡ s.busy v))
-            → In v × (sent d u v ≡ suc (got d u v))
+              → ((v ≡ w) × (marked d.same_wire s.busy w false v ≡ false)) ⊎ ((v ≡ w → ⊥) × (marked d.same_wire s.busy w false v ≡ s.busy v))
+              → In v × (sent d u v ≡ suc (got d u v))
           at_full v e (inl (p, x)) = absurd (cc)
-          at_full v e (inr (p, x)) = ((g.full v (sym x ∙ e)).0,
-            count_other s.trace (d.receiver w) w u more (d.driver v) v p ∙ (g.full v (sym x ∙ e)).1 ∙ ap suc (sym (count_other s.trace (d.receiver w) w u more (d.receiver v) v p)))
+          at_full v e (inr (p, x)) = (
+            (g.full v (sym x ∙ e)).0,
+            count_other s.trace (d.receiver w) w u more (d.driver v) v p ∙ (g.full v (sym x ∙ e)).1 ∙ ap suc (sym (count_other s.trace (d.receiver w) w u more (d.receiver v) v p)),
+          )
 
       -- what is ready is safe, and the stage after it goes on
       safe_one : (s : Stage N W) → Going s → (e : Move W) → Ready d s e → Safe d s e
@@ -277,20 +291,24 @@ module _ (N W : Type 0) (d : Web N W) (l : Lawful N W d) where
         where
           b : W → Bool
           b = marked d.same_wire s.busy w true
+
           at : ((v ≡ w) × (marked d.same_wire b w false v ≡ false)) ⊎ ((v ≡ w → ⊥) × (marked d.same_wire b w false v ≡ b v))
-            → ((v ≡ w) × (b v ≡ true)) ⊎ ((v ≡ w → ⊥) × (b v ≡ s.busy v)) → marked d.same_wire b w false v ≡ false
+              → ((v ≡ w) × (b v ≡ true)) ⊎ ((v ≡ w → ⊥) × (b v ≡ s.busy v)) → marked d.same_wire b w false v ≡ false
           at (inl (p, e)) q = e
           at (inr (p, e)) (inl (q, x)) = absurd (p q)
           at (inr (p, e)) (inr (q, x)) = e ∙ x ∙ h v
 
       through_went : (s : Stage N W) (w : W) → Went N W d s.trace w (through s w).trace
-      through_went s w = ((next d s (Send w)).trace, longer_is d.same_node l.nodes s.trace (d.driver w) w,
-        longer_is d.same_node l.nodes (next d s (Send w)).trace (d.receiver w) w)
+      through_went s w = (
+        (next d s (Send w)).trace,
+        longer_is d.same_node l.nodes s.trace (d.driver w) w,
+        longer_is d.same_node l.nodes (next d s (Send w)).trace (d.receiver w) w,
+      )
 
       through_out : (a : List W) (s : Stage N W) → Going s → (w : W) → d.rule (d.driver w) (s.trace (d.driver w)) w → Out a (through s w) → Out a s
       through_out a s g w r o = first a s (Send w)
-        (follows_end (d.rule (d.driver w)) [] (s.trace (d.driver w)) w (g.traces (d.driver w)) r) (send_free s g w r)
-        (first a (next d s (Send w)) (Land w) (through_busy s w) (land_safe (next d s (Send w)) (send_going s g w r) w (through_busy s w)) o)
+          (follows_end (d.rule (d.driver w)) [] (s.trace (d.driver w)) w (g.traces (d.driver w)) r) (send_free s g w r)
+          (first a (next d s (Send w)) (Land w) (through_busy s w) (land_safe (next d s (Send w)) (send_going s g w r) w (through_busy s w)) o)
 
       went_inner : (t : N → List W) (w : W) (u : N → List W) → Went N W d t w u → (d.driver w ≡ d.outside → ⊥) → (d.receiver w ≡ d.outside → ⊥) → u d.outside ≡ t d.outside
       went_inner t w u h a c = longer_away h.0 (d.receiver w) w u h.2 d.outside (λ e. c (sym e)) ∙ longer_away t (d.driver w) w h.0 h.1 d.outside (λ e. a (sym e))
@@ -298,7 +316,7 @@ module _ (N W : Type 0) (d : Web N W) (l : Lawful N W d) where
       went_outer : (t : N → List W) (w : W) (u : N → List W) → Went N W d t w u → (d.driver w ≡ d.outside) ⊎ (d.receiver w ≡ d.outside) → u d.outside ≡ t d.outside ++ w ∷ []
       went_outer t w u h (inl e) = longer_away h.0 (d.receiver w) w u h.2 d.outside (λ x. l.clean w (e ∙ x)) ∙ longer_at t (d.driver w) w h.0 h.1 d.outside (sym e)
       went_outer t w u h (inr e) = longer_at h.0 (d.receiver w) w u h.2 d.outside (sym e)
-        ∙ ap (λ x. x ++ w ∷ []) (longer_away t (d.driver w) w h.0 h.1 d.outside (λ x. l.clean w (sym x ∙ sym e)))
+          ∙ ap (λ x. x ++ w ∷ []) (longer_away t (d.driver w) w h.0 h.1 d.outside (λ x. l.clean w (sym x ∙ sym e)))
 
       module _ (J : (N → List W) → Type 0) where
         -- a stage between two symbols
@@ -308,16 +326,16 @@ module _ (N W : Type 0) (d : Web N W) (l : Lawful N W d) where
           pub good : J s.trace
 
         serve : (a : List W) (q : W) (t : N → List W) → Leads N W d I J q t → (b : W → Bool) → Going (record { trace = t; busy = b }) → ((w : W) → b w ≡ false)
-          → ((s : Stage N W) → Rest s → s.trace d.outside ≡ t d.outside ++ q ∷ [] → Out a s) → Out a (record { trace = t; busy = b })
+            → ((s : Stage N W) → Rest s → s.trace d.outside ≡ t d.outside ++ q ∷ [] → Out a s) → Out a (record { trace = t; busy = b })
         serve a q t (pulls w x y r f) b g h c =
-          let s : Stage N W = record { trace = t; busy = b } in
-          let going : Going (through s w) = through_going s g w r in
-          through_out a s g w r (serve a q (through s w).trace (f (through s w).trace (through_went s w) going.holds) (through s w).busy going (through_idle s h w)
+            let s : Stage N W = record { trace = t; busy = b } in
+            let going : Going (through s w) = through_going s g w r in
+            through_out a s g w r (serve a q (through s w).trace (f (through s w).trace (through_went s w) going.holds) (through s w).busy going (through_idle s h w)
             (λ z rest e. c z rest (e ∙ ap (λ i. i ++ q ∷ []) (went_inner t w (through s w).trace (through_went s w) x y))))
         serve a q t (ends x r f) b g h c =
-          let s : Stage N W = record { trace = t; busy = b } in
-          let going : Going (through s q) = through_going s g q r in
-          through_out a s g q r (c (through s q)
+            let s : Stage N W = record { trace = t; busy = b } in
+            let going : Going (through s q) = through_going s g q r in
+            through_out a s g q r (c (through s q)
             (record { going = going; idle = through_idle s h q; good = f (through s q).trace (through_went s q) going.holds })
             (went_outer t q (through s q).trace (through_went s q) x))
 
@@ -325,8 +343,8 @@ module _ (N W : Type 0) (d : Web N W) (l : Lawful N W d) where
           exact_from : (a : List W) (s : Stage N W) → Rest s → Follows (d.rule d.outside) (s.trace d.outside) a → Out (s.trace d.outside ++ a) s
           exact_from [] s h f = ([], tt, sym (append-nil (s.trace d.outside)))
           exact_from (q ∷ a) s h f = serve (s.trace d.outside ++ q ∷ a) q s.trace
-            (leads s.trace q h.going.holds h.good (λ v. h.going.free v (h.idle v)) f.0) s.busy h.going h.idle
-            (λ z rest e. subst (λ x. Out x z) (ap (λ i. i ++ a) e ∙ append_assoc (s.trace d.outside) (q ∷ []) a)
+              (leads s.trace q h.going.holds h.good (λ v. h.going.free v (h.idle v)) f.0) s.busy h.going h.idle
+              (λ z rest e. subst (λ x. Out x z) (ap (λ i. i ++ a) e ∙ append_assoc (s.trace d.outside) (q ∷ []) a)
               (exact_from a z rest (subst (λ i. Follows (d.rule d.outside) i a) (sym e) f.1)))
 
           pub exact_of : J (λ n. []) → WebExact d
@@ -338,5 +356,5 @@ web_sound N W d In I l k = sound_of N W d l In I k
 
 -- Where moreover inner wires lead to each symbol that the outside may do, each of its traces is seen.
 pub web_exact : (N W : Type 0) (d : Web N W) (In : W → Type 0) (I J : (N → List W) → Type 0) → Lawful N W d → Tends N W d In I → J (λ n. [])
-  → ((t : N → List W) (q : W) → I t → J t → ((v : W) → sent d t v ≡ got d t v) → d.rule d.outside (t d.outside) q → Leads N W d I J q t) → WebExact d
+    → ((t : N → List W) (q : W) → I t → J t → ((v : W) → sent d t v ≡ got d t v) → d.rule d.outside (t d.outside) q → Leads N W d I J q t) → WebExact d
 web_exact N W d In I J l k j h = exact_of N W d l In I k J h j

@@ -1,6 +1,6 @@
 -- Sums of the counts of k wires, for arguments of the form 'at most one of these is ahead'.
 use Rattle.std.proofs.Common.{◌≡◌, ℕ, zero, suc, ◌+◌, ◌<◌, ◌≤◌, ◌⊎◌, inl, inr, refl, sym, ap, ◌∙◌, arith}
-use Rattle.std.proofs.lemmas.Bool.{cases_lt, cases_eq}
+use Rattle.std.proofs.lemmas.Bool.{cases_lt}
 use Rattle.net_core.proofs.Woven.{Grew, grew_same, grew_other, grew_le}
 
 -- u 0 + .. + u (k - 1)
@@ -73,17 +73,17 @@ pub total_gap2 : (k : ℕ) (u v : ℕ → ℕ) → ((i : ℕ) → i < k → u i 
 unfolding total
 total_gap2 zero u v h i j x y n = absurd (omega arith)
 total_gap2 (suc k) u v h i j x y n =
-  let low : (a : ℕ) → a < k → u a ≤ v a = λ a z. h a (omega arith) in
-  elim (cases_lt i k) [
-  | inl a ↦ elim (cases_lt j k) [
-    | inl b ↦ omega (arith, h k (omega arith), total_gap2 k u v low i j a b n)
-    | inr b ↦ let e : j ≡ k = omega arith in omega (arith, ap u e, ap v e, total_gap k u v low i a)
-  ]
-  | inr a ↦ elim (cases_lt j k) [
-    | inl b ↦ let e : i ≡ k = omega arith in omega (arith, ap u e, ap v e, total_gap k u v low j b)
-    | inr b ↦ absurd (n (omega arith))
-  ]
-]
+    let low : (a : ℕ) → a < k → u a ≤ v a = λ a z. h a (omega arith) in
+    elim (cases_lt i k) [
+      | inl a ↦ elim (cases_lt j k) [
+        | inl b ↦ omega (arith, h k (omega arith), total_gap2 k u v low i j a b n)
+        | inr b ↦ let e : j ≡ k = omega arith in omega (arith, ap u e, ap v e, total_gap k u v low i a)
+      ]
+      | inr a ↦ elim (cases_lt j k) [
+        | inl b ↦ let e : i ≡ k = omega arith in omega (arith, ap u e, ap v e, total_gap k u v low j b)
+        | inr b ↦ absurd (n (omega arith))
+      ]
+    ]
 
 module _ (k : ℕ) (u v : ℕ → ℕ) (h : (i : ℕ) → i < k → u i ≤ v i) where
   -- where the sums differ by at most one, so does each part
@@ -120,8 +120,8 @@ pub total_split : (k l : ℕ) (u : ℕ → ℕ) → total (k + l) u ≡ total k 
 unfolding total
 total_split k zero u = let e : k + 0 ≡ k = omega arith in omega (arith, ap (λ z. total z u) e)
 total_split k (suc l) u = let e : k + suc l ≡ suc (k + l) = omega arith in
-  let a : total (k + suc l) u ≡ total (k + l) u + u (k + l) = ap (λ z. total z u) e in
-  omega (arith, a, total_split k l u)
+    let a : total (k + suc l) u ≡ total (k + l) u + u (k + l) = ap (λ z. total z u) e in
+    omega (arith, a, total_split k l u)
 
 -- rows first or columns first
 pub total_swap : (k l : ℕ) (u : ℕ → ℕ → ℕ) → total k (λ i. total l (u i)) ≡ total l (λ j. total k (λ i. u i j))
