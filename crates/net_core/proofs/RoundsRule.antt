@@ -1,11 +1,15 @@
 -- The rule of rounds, by how often each port has come. A node with n inputs and then m outputs takes each input once and then gives each output once, and so on.
-use Rattle.std.proofs.Common.{◌≡◌, ℕ, ◌+◌, ◌<◌, ◌≤◌, List, [], ◌∷◌, ◌++◌, ◌⊎◌}
-use Rattle.net_core.proofs.Webs.{same_number, tally, naught, Follows}
-use Rattle.net_core.proofs.Told.{follows_end, follows_last, follows_start}
+use Rattle.std.proofs.Common.{◌≡◌, ℕ, suc, ◌+◌, ◌<◌, ◌≤◌, List, [], ◌∷◌, ◌++◌, ◌⊎◌, sym, subst}
+use Rattle.net_core.proofs.Webs.{same_number, numbers_decide, tally, naught, Follows}
+use Rattle.net_core.proofs.Told.{tally_end, grown_cases, follows_end, follows_last, follows_start}
 
 -- how often each port is in a trace
 abbrev pub counts : List ℕ → ℕ → ℕ
 counts t = tally same_number naught t
+
+pub counts_end : (t : List ℕ) (p q : ℕ) → ((q ≡ p) × (counts (t ++ p ∷ []) q ≡ suc (counts t q))) ⊎ ((q ≡ p → ⊥) × (counts (t ++ p ∷ []) q ≡ counts t q))
+counts_end t p q = subst (λ c. ((q ≡ p) × (c q ≡ suc (counts t q))) ⊎ ((q ≡ p → ⊥) × (c q ≡ counts t q))) (sym (tally_end same_number naught t p))
+    (grown_cases same_number numbers_decide (counts t) p q)
 
 -- Where the counts are c, the port p may come. An input may where no output lags behind it, an output where it lags behind each input.
 abbrev pub RoundsAt : ℕ → ℕ → (ℕ → ℕ) → ℕ → Type 0
