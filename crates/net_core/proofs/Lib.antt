@@ -2,3 +2,13 @@ pub mod Counting
 pub mod Tallying
 pub mod Drafts
 pub mod FirstMarks
+pub mod Updates
+pub mod Webs
+pub mod Told
+pub mod Woven
+pub mod Totals
+pub mod Named
+pub mod Relabel
+pub mod RoundsRule
+pub mod Rounds
+pub mod RoundsNets
