@@ -1,0 +1,2 @@
+//! Command files: their text, the reader and the writer.
+#![tactic(auto)]

@@ -1,0 +1,3 @@
+pub mod FormText
+pub mod FormNets
+pub mod NetText

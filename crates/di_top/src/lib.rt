@@ -1,0 +1,2 @@
+//! The top call of the program: words in, bytes out.
+#![tactic(auto)]
