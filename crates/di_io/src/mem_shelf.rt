@@ -1,5 +1,5 @@
 //! A shelf in memory, for tests and proofs about callers.
-ghost use Rattle.std.specs.Prelude.{◌≡◌, ℕ, ◌≤◌, ◌↔◌, List, Some, Err, IfOk, IfErr, IsTrue, is_some, length, take, map, option_copied, option_map};
+ghost use Rattle.std.specs.Prelude.{◌≡◌, ℕ, ◌≤◌, ◌↔◌, List, Some, Err, IfOk, IfErr, IsTrue, length, take, map, option_map};
 ghost use Rattle.di_io.specs.Faults.{Rose, counted};
 ghost use Rattle.di_io.specs.MemShelf.{file_bytes, content_of, faults_of, next_fails, load_fails};
 

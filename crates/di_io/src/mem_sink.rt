@@ -1,5 +1,5 @@
 //! A sink in memory, for tests and proofs about callers.
-ghost use Rattle.std.specs.Prelude.{◌≡◌, ℕ, ◌+◌, ◌≤◌, [], ◌++◌, Some, Err, IfOk, OnOk, OnErr, is_some, is_err, length, nat_le};
+ghost use Rattle.std.specs.Prelude.{◌≡◌, ◌+◌, ◌≤◌, [], ◌++◌, Some, Err, IfOk, OnOk, OnErr, is_some, is_err, length, nat_le};
 ghost use Rattle.di_io.specs.Faults.{Rose, counted};
 ghost use Rattle.di_io.specs.Written.{Gains, GainsFront};
 ghost use Rattle.di_io.specs.MemSink.{cut_of, asked_cut, next_cut, after_put};
