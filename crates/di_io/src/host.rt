@@ -69,8 +69,9 @@ impl<R: Files + Drop> Shelf for HostShelf<R> {
 
     ghost faults = { λ faults _. faults };
 
-    /// The first bytes of the file `name`, at most `cap` of them. A folder, a name without a
-    /// file and a refused read are faults.
+    /// The first bytes of the file `name`, at most `cap` of them. It ends where a read gives no
+    /// byte or `cap` bytes were read. A folder, a name without a file and a read that the system
+    /// refuses are faults.
     fn load(&mut self, alloc: Global, name: &str, cap: usize) -> Result<Vec<u8>, LoadFault> {
         let loaded = read_front(&self.files, alloc, name, cap);
         if matches!(loaded, Err(LoadFault::Failed)) {
@@ -111,7 +112,8 @@ impl<W: Write + Drop> Sink for HostSink<W> {
 
     ghost faults = { λ faults. faults };
 
-    /// Writes `bytes` through to the stream. A write that takes no byte is a fault.
+    /// Writes all of `bytes` to the stream, in as many pieces as it takes, and flushes it. A write
+    /// that takes no byte of a nonempty piece is a fault, as is one that the system refuses.
     fn put(&mut self, bytes: &[u8]) -> Result<(), PutFault> {
         let written = self.stream.write_all(bytes);
         match written.and_then(|()| self.stream.flush()) {

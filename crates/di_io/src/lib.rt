@@ -61,6 +61,10 @@ pub trait Shelf {
     ghost faults: { Self → List ℕ → ℕ };
 
     /// The first bytes of the file `name`, at most `cap` of them.
+    ///
+    /// `Failed` where there is no such file or it could not be read: then the count of the name
+    /// rose. `NoMemory` where memory for the bytes was refused. After either, as after bytes, the
+    /// content of each name is as before, and the next call may succeed.
     fn load(&mut self, alloc: Global, name: &str, cap: usize) -> Result<Vec<u8>, LoadFault>
         ensures kept { (other : List ℕ) → content self.new other ≡ content self.old other }
         ensures later { (other : List ℕ) → faults self.old other ≤ faults self.new other }
@@ -79,7 +83,10 @@ pub trait Sink {
     // The count of faults.
     ghost faults: { Self → ℕ };
 
-    /// Appends `bytes`. Takes no memory. After an error a front of them was appended.
+    /// Appends `bytes`. It takes no memory.
+    ///
+    /// `Failed` where not all could be written: then the count rose, and a front of `bytes`, none
+    /// or more of them, was appended. The next call may succeed.
     fn put(&mut self, bytes: &[u8]) -> Result<(), PutFault>
         ensures later { faults self.old ≤ faults self.new }
         ensures ok { OnOk result (Gains (written self.old) (written self.new) bytes.now) }

@@ -33,7 +33,8 @@ impl Model for MemShelf {
 }
 
 impl MemShelf {
-    /// A shelf of these pairs of a name and a content, whose loads of the numbers in `fails` fail.
+    /// A shelf of these pairs of a name and a content, with no loads so far. The loads of the
+    /// numbers in `fails` are to fail. It takes no memory.
     pub fn new(files: Vec<(String, Vec<u8>)>, fails: Vec<u64>) -> MemShelf
         ensures files { result.files ≡ map file_bytes files.items }
         ensures fails { result.fails ≡ fails.items }
@@ -79,7 +80,10 @@ impl Shelf for MemShelf {
 
     ghost faults = { faults_of };
 
-    /// The first bytes of the file `name`, at most `cap` of them.
+    /// The first bytes of the first file of this name, at most `cap` of them.
+    ///
+    /// `Failed` comes exactly where the type says so, also where memory is short. The load counts
+    /// whatever it answers.
     fn load(&mut self, alloc: Global, name: &str, cap: usize) -> Result<Vec<u8>, LoadFault>
         ensures kept { (other : List ℕ) → content_of self.new.files other ≡ content_of self.old.files other }
         ensures later { (other : List ℕ) → faults_of self.old other ≤ faults_of self.new other }

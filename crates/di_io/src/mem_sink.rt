@@ -42,8 +42,9 @@ impl Model for MemSink {
 }
 
 impl MemSink {
-    /// A sink with room for so many bytes in all. Each pair of `fails` is the number of a put
-    /// that fails, and the number of bytes after which it does.
+    /// An empty sink with room for `room` bytes in all. Each pair of `fails` is the number of a
+    /// put that is to fail, and the number of bytes after which it does. `NoMemory` where memory
+    /// for the room was refused: no later put takes any.
     pub fn new(alloc: Global, room: usize, fails: Vec<(u64, usize)>) -> Result<MemSink, NoMemory>
         ensures written { IfOk result (λ sink. sink.written ≡ []) }
         ensures room { IfOk result (λ sink. sink.room ≡ room) }
@@ -99,7 +100,7 @@ impl MemSink {
         count <= self.room - self.written.len()
     }
 
-    /// What was written.
+    /// All bytes written so far, in order.
     pub fn bytes(&self) -> &[u8]
         ensures { result.now ≡ self.now.written }
     {
@@ -126,7 +127,7 @@ impl Sink for MemSink {
 
     ghost faults = { λ sink. sink.faults };
 
-    /// Appends `bytes`, unless this put fails.
+    /// Appends `bytes`, or fails as the type says. The put counts either way.
     fn put(&mut self, bytes: &[u8]) -> Result<(), PutFault>
         ensures later { self.old.faults ≤ self.new.faults }
         ensures ok { OnOk result (Gains (Some self.old.written) (Some self.new.written) bytes.now) }
