@@ -130,7 +130,7 @@ impl<W: Write + Drop> Sink for HostSink<W> {
 mod tests {
     use super::*;
     use std::test::Fail;
-    use std::{env, io};
+    use std::{env, io, process};
 
     // Takes two bytes, and then none.
     #[derive(Drop)]
@@ -159,7 +159,8 @@ mod tests {
         let alloc = rt.alloc();
         let folder = env::temp_dir(&rt)?;
         let mut path = folder.clone()?;
-        path.push("di_io_host_shelf")?;
+        let name = format!(in alloc; "di_io_{}", process::id(rt.process()))?;
+        path.push(name.as_str())?;
         fs::write(&rt, path.as_str(), "abcdef")?;
         let mut shelf = HostShelf::new(rt.clone()?);
         let rows = [
