@@ -23,9 +23,9 @@ one_net c kind wires = record {
 abbrev pub join_net : Command → ℕ → ℕ → Circuit
 join_net c n m = record {
   nodes = outside c (n + m)
-    ∷ record { spec = Basic (C n); ends = range_with_len 0 n ++ (n + m) ∷ [] }
-    ∷ record { spec = Basic (Fork m); ends = (n + m) ∷ range_with_len n m }
-    ∷ [];
+      ∷ record { spec = Basic (C n); ends = range_with_len 0 n ++ (n + m) ∷ [] }
+      ∷ record { spec = Basic (Fork m); ends = (n + m) ∷ range_with_len n m }
+      ∷ [];
   wires = n + m + 1;
 }
 

@@ -1,3 +1,4 @@
 pub mod FormText
 pub mod FormNets
+pub mod FormRead
 pub mod NetText

@@ -1,2 +1,5 @@
 //! The top call of the program: words in, bytes out.
 #![tactic(auto)]
+
+mod form;
+mod network;
