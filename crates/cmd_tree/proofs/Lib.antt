@@ -1,3 +1,4 @@
 pub mod Bursts
 pub mod Cuts
 pub mod Paths
+pub mod Prefixes

@@ -5,9 +5,11 @@
 #![tactic(auto)]
 
 mod command;
+mod laws;
 mod name;
 mod tree;
 
 pub use command::Command;
+pub use laws::{traces_are_closed, traces_are_steps};
 pub use name::{Name, NameSet};
 pub use tree::{Dir, Item, Mark, Proc, Seq, Sym};
