@@ -2,3 +2,4 @@ pub mod Bursts
 pub mod Cuts
 pub mod Paths
 pub mod Prefixes
+pub mod Phases
