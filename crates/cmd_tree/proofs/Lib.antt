@@ -3,3 +3,4 @@ pub mod Cuts
 pub mod Paths
 pub mod Prefixes
 pub mod Phases
+pub mod RoundsSteps
