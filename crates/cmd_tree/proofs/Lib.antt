@@ -4,3 +4,5 @@ pub mod Paths
 pub mod Prefixes
 pub mod Phases
 pub mod RoundsSteps
+pub mod RoundsTraces
+pub mod RoundsPorts

@@ -10,6 +10,6 @@ mod name;
 mod tree;
 
 pub use command::Command;
-pub use laws::{traces_are_closed, traces_are_steps};
+pub use laws::{rounds_by_counts, traces_are_closed, traces_are_steps};
 pub use name::{Name, NameSet};
 pub use tree::{Dir, Item, Mark, Proc, Seq, Sym};

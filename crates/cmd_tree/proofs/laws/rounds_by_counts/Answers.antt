@@ -1,0 +1,15 @@
+use Rattle.cmd_tree.proofs.RoundsTraces.{rounds_traces}
+use Rattle.cmd_tree.proofs.RoundsPorts.{rounds_ports, rounds_push, rounds_nil}
+use Rattle.cmd_tree.proofs.laws.rounds_by_counts.Goals as goal
+
+pub returns-clause-symbols : goal.returns-clause-symbols
+returns-clause-symbols c = λ ins outs some_in some_out once t. rounds_traces ins outs once some_in some_out t
+
+pub returns-clause-ports : goal.returns-clause-ports
+returns-clause-ports c = λ n m t some_in some_out. rounds_ports n m some_in some_out t
+
+pub returns-clause-empty : goal.returns-clause-empty
+returns-clause-empty c = rounds_nil
+
+pub returns-clause-push : goal.returns-clause-push
+returns-clause-push c = rounds_push
