@@ -5,7 +5,8 @@ use Rattle.std.proofs.lemmas.Bool.{cases_eq, cases_lt}
 use Rattle.std.proofs.lemmas.List.FromFn.{length-range_with_len}
 use Rattle.cmd_tree.specs.Meaning.{Trace}
 use Rattle.cmd_tree.specs.Residual.{has}
-use Rattle.cmd_tree.specs.Rounds.{rounds, count, Follows, MayCome, RoundsAt, Rounds}
+use Rattle.cmd_tree.specs.Rounds.{count, Follows, RoundsAt, Rounds}
+use Rattle.cmd_tree.specs.RoundsProc.{rounds, MayCome}
 use Rattle.cmd_tree.proofs.Bursts.{count_same, has_from_count, count_from_has}
 use Rattle.cmd_tree.proofs.Phases.{count_other, Once}
 use Rattle.cmd_tree.proofs.RoundsTraces.{rounds_traces}

@@ -5,7 +5,8 @@ use Rattle.cmd_tree.specs.Tree.{TSeq, TBurst, Done, Then}
 use Rattle.cmd_tree.specs.Meaning.{symbols}
 use Rattle.cmd_tree.specs.Join.{join}
 use Rattle.cmd_tree.specs.Residual.{has, without, Left, Next, Step, within, opens, Runs}
-use Rattle.cmd_tree.specs.Rounds.{input, output, count, Follows, MayCome}
+use Rattle.cmd_tree.specs.Rounds.{count, Follows}
+use Rattle.cmd_tree.specs.RoundsProc.{input, output, MayCome}
 use Rattle.cmd_tree.proofs.Bursts.{has_from_count, count_from_has}
 use Rattle.cmd_tree.proofs.Phases.{Grew, count_grows, Once, Once-swap, Phase, pending_in, phase_within, phase_opens, none_pending, some_member}
 

@@ -8,7 +8,8 @@ use Rattle.cmd_tree.specs.Tree.{Done}
 use Rattle.cmd_tree.specs.Limits.{IsProc, marks_of_proc, marks_of_all}
 use Rattle.cmd_tree.specs.Meaning.{symbols, TraceOf, Trace, has_symbol, project}
 use Rattle.cmd_tree.specs.Residual.{has, Left, Runs, start}
-use Rattle.cmd_tree.specs.Rounds.{input, output, rounds_of, count, Follows, MayCome}
+use Rattle.cmd_tree.specs.Rounds.{count, Follows}
+use Rattle.cmd_tree.specs.RoundsProc.{input, output, rounds_of, MayCome}
 use Rattle.cmd_tree.proofs.Paths.{trace_runs}
 use Rattle.cmd_tree.proofs.Phases.{Once}
 use Rattle.cmd_tree.proofs.RoundsSteps.{symbols_input, symbols_output, answer, body, Stands, follows_from_runs, runs_from_follows}

@@ -8,3 +8,4 @@ pub mod Limits
 pub mod Meaning
 pub mod Residual
 pub mod Rounds
+pub mod RoundsProc

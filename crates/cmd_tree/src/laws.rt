@@ -5,7 +5,8 @@ ghost use Rattle.cmd_tree.specs.declared.tree.Proc.{Proc};
 ghost use Rattle.cmd_tree.specs.Limits.{IsProc};
 ghost use Rattle.cmd_tree.specs.Meaning.{TraceOf, Trace};
 ghost use Rattle.cmd_tree.specs.Residual.{Runs, start};
-ghost use Rattle.cmd_tree.specs.Rounds.{rounds, rounds_of, count, Follows, MayCome, RoundsAt, Rounds};
+ghost use Rattle.cmd_tree.specs.Rounds.{count, Follows, RoundsAt, Rounds};
+ghost use Rattle.cmd_tree.specs.RoundsProc.{rounds, rounds_of, MayCome};
 
 /// The traces of a process are the lists of symbols that are steps one after another from its start.
 pub fn traces_are_steps()
