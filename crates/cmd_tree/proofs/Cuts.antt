@@ -1,9 +1,9 @@
 -- Whole traces of joined sequences, and of what a sequence begins with.
-use Rattle.std.proofs.Common.{◌≡◌, ◌≢◌, ◌⊎◌, inl, inr, ⊎_elim, ℕ, ◌<◌, List, [], ◌∷◌, ◌++◌, IsTrue, refl, sym, ap, ◌∙◌, subst, arith, append_assoc, append-nil, IsPermutation, Option, Some, None}
+use Rattle.std.proofs.Common.{◌≡◌, inl, inr, ⊎_elim, ℕ, ◌<◌, List, [], ◌∷◌, ◌++◌, IsTrue, refl, sym, ap, ◌∙◌, subst, arith, append_assoc, append-nil, IsPermutation}
 use Rattle.std.proofs.lemmas.List.Sorted.{IsPermutation-refl}
 use Rattle.cmd_tree.specs.declared.tree.Mark.{Mark}
 use Rattle.cmd_tree.specs.Tree.{TItem, TSeq, TSeqs, TBurst, TAlt, Stop, Or, Done, Then}
-use Rattle.cmd_tree.specs.Limits.{IsSeq, IsItem, AreSeqs, IsFull, IsPart, count_of}
+use Rattle.cmd_tree.specs.Limits.{IsSeq, IsItem, AreSeqs, IsFull, count_of}
 use Rattle.cmd_tree.specs.Meaning.{Cut, symbols, Whole, WholeItem, WholeOne}
 use Rattle.cmd_tree.specs.Join.{join}
 use Rattle.cmd_tree.specs.Residual.{has, without, FirstOf, FirstIn, FirstAmong}
@@ -125,9 +125,9 @@ mutual
   pub begins_one : (ss : TSeqs) → AreSeqs ss → (a : ℕ) (w : List ℕ) → WholeOne ss (a ∷ w) → Begins (FirstAmong ss) a w
   begins_one Stop h a w p = absurd p
   begins_one (Or s ss) h a w p = ⊎_elim
-    (λ q. widen (FirstOf s) (FirstAmong (Or s ss)) a w (λ ms r x. inl x) (begins_seq s (full_seq s h.0) a w q))
-    (λ q. widen (FirstAmong ss) (FirstAmong (Or s ss)) a w (λ ms r x. inr x) (begins_one ss h.1 a w q))
-    p
+      (λ q. widen (FirstOf s) (FirstAmong (Or s ss)) a w (λ ms r x. inl x) (begins_seq s (full_seq s h.0) a w q))
+      (λ q. widen (FirstAmong ss) (FirstAmong (Or s ss)) a w (λ ms r x. inr x) (begins_one ss h.1 a w q))
+      p
 
   pub begins_seq : (s : TSeq) → IsSeq s → (a : ℕ) (w : List ℕ) → Whole s (a ∷ w) → Begins (FirstOf s) a w
   begins_seq Done h a w e = absurd (cc)

@@ -1,12 +1,11 @@
 -- The traces of a process are the paths of its steps.
-use Rattle.std.proofs.Common.{◌≡◌, ◌≢◌, ◌⊎◌, ◌↔◌, ℕ, ◌<◌, List, [], ◌∷◌, ◌++◌, IsTrue, refl, sym, ap, ◌∙◌, subst, arith, append_assoc, append-nil, IsPermutation, Option, Some, None}
+use Rattle.std.proofs.Common.{◌≡◌, ◌↔◌, ℕ, List, [], ◌∷◌, ◌++◌, IsTrue, refl, sym, ap, ◌∙◌, subst, append_assoc, IsPermutation, Option, Some, None}
 use Rattle.std.proofs.lemmas.List.Sorted.{IsPermutation-refl}
-use Rattle.std.proofs.lemmas.List.Elements.{filter-append}
 use Rattle.cmd_tree.specs.declared.tree.Mark.{Mark}
 use Rattle.cmd_tree.specs.declared.tree.Proc.{Proc}
 use Rattle.cmd_tree.specs.Tree.{TSeq, Done, Then}
-use Rattle.cmd_tree.specs.Limits.{IsSeq, IsFull, IsPart, IsProc, marks_of_proc, marks_of_all}
-use Rattle.cmd_tree.specs.Meaning.{Cut, Star, stop, turn, symbols, Whole, WholeLead, Turns, TraceOf, Trace, has_symbol, project}
+use Rattle.cmd_tree.specs.Limits.{IsSeq, IsFull, IsPart, IsProc}
+use Rattle.cmd_tree.specs.Meaning.{Cut, Star, stop, turn, symbols, Whole, WholeLead, Turns, TraceOf}
 use Rattle.cmd_tree.specs.Residual.{has, without, FirstOf, FirstOfBody, Left, Next, Step, within, opens, Runs, lead_of, start}
 use Rattle.cmd_tree.proofs.Bursts.{take_perm, put_perm, perm_nil, nil_perm}
 use Rattle.cmd_tree.proofs.Cuts.{full_seq, nonempty_full, some_whole, begins_seq, whole_of, left_of}
@@ -91,14 +90,16 @@ some_turns (Some b) = stop
 
 pub some_rest : (body : Option TSeq) (c : Left) → IsSeq c.rest → (u : List ℕ) × Rest body c u
 some_rest body c h =
-    let w = some_whole c.rest h in
-    (c.pending ++ (w.0 ++ []), record {
-      front = c.pending;
-      back = w.0 ++ [];
-      joins = refl;
-      first = IsPermutation-refl c.pending;
-      second = record { front = w.0; back = []; joins = refl; first = w.1; second = some_turns body };
-    })
+    let w = some_whole c.rest h in (
+      c.pending ++ (w.0 ++ []),
+      record {
+        front = c.pending;
+        back = w.0 ++ [];
+        joins = refl;
+        first = IsPermutation-refl c.pending;
+        second = record { front = w.0; back = []; joins = refl; first = w.1; second = some_turns body };
+      },
+    )
 
 next_rest : (body : Option TSeq) (r : TSeq) (ms : List Mark) (q : TSeq) → Next body r ms q → (a : ℕ) (f b t : List ℕ) → IsPermutation (symbols ms) (a ∷ f) → Whole q b → Turns body t → Cut (Whole r) (Turns body) (a ∷ (f ++ (b ++ t)))
 next_rest None Done ms q n a f b t p w s = absurd n
@@ -162,8 +163,8 @@ trace_runs p h t = (
     second = (lead_whole p.lead (Turns p.body) (t ++ k.0)).0 k.1;
   }),
   λ r.
-    let k = rest_from_runs p.body h.2 t (start p) (lead_seq p.lead h.1) r in
-    let none : k.1.front ≡ [] = nil_perm k.1.front k.1.first in
-    let same : k.1.back ≡ t ++ k.0 = sym (k.1.joins ∙ ap (λ x. x ++ k.1.back) none) in
-    (k.0, (lead_whole p.lead (Turns p.body) (t ++ k.0)).1 (subst (λ x. Cut (Whole (lead_of p.lead)) (Turns p.body) x) same k.1.second)),
+      let k = rest_from_runs p.body h.2 t (start p) (lead_seq p.lead h.1) r in
+      let none : k.1.front ≡ [] = nil_perm k.1.front k.1.first in
+      let same : k.1.back ≡ t ++ k.0 = sym (k.1.joins ∙ ap (λ x. x ++ k.1.back) none) in
+      (k.0, (lead_whole p.lead (Turns p.body) (t ++ k.0)).1 (subst (λ x. Cut (Whole (lead_of p.lead)) (Turns p.body) x) same k.1.second)),
 )

@@ -1,5 +1,5 @@
 -- The counts of inputs and outputs in a round: those of one list come while their pending ones are left, and then it is the other's turn.
-use Rattle.std.proofs.Common.{◌≡◌, ◌≢◌, ◌⊎◌, inl, inr, ⊎_elim, ℕ, suc, ◌+◌, ◌<◌, ◌≤◌, Bool, true, false, List, [], ◌∷◌, ◌++◌, length, nat_eq, if◌then◌else◌, IsTrue, refl, sym, ap, ◌∙◌, subst, arith, eqb-true, eq-eqb, ne_eqb}
+use Rattle.std.proofs.Common.{◌≡◌, ⊎_elim, ℕ, suc, ◌+◌, ◌<◌, ◌≤◌, Bool, true, false, List, [], ◌∷◌, ◌++◌, length, nat_eq, if◌then◌else◌, IsTrue, refl, sym, ap, ◌∙◌, subst, arith, ne_eqb}
 use Rattle.std.proofs.lemmas.Bool.{cases_eq}
 use Rattle.cmd_tree.specs.Residual.{has, without}
 use Rattle.cmd_tree.specs.Rounds.{count}
@@ -56,17 +56,17 @@ without_elsewhere a x p h n = sym (count_without a x p h ∙ count_other x a (wi
 
 without_less : (a x : ℕ) (p : List ℕ) → IsTrue (has a p) → count x (without a p) ≤ count x p
 without_less a x p h = ⊎_elim
-  (λ e. subst (λ y. count y (without a p) ≤ count y p) (sym e) (omega (arith, without_here a p h)))
-  (λ n. omega (arith, without_elsewhere a x p h n))
-  (cases_eq x a)
+    (λ e. subst (λ y. count y (without a p) ≤ count y p) (sym e) (omega (arith, without_here a p h)))
+    (λ n. omega (arith, without_elsewhere a x p h n))
+    (cases_eq x a)
 
 pub phase_within : (now other : List ℕ) (full done : ℕ) (c d : ℕ → ℕ) (p : List ℕ) (a : ℕ) → Once now other → Phase now other full done c p → IsTrue (has a p) → Grew c a d → Phase now other full done d (without a p)
 phase_within now other full done c d p a once h there g = record {
   below = λ x. omega (arith, without_less a x p there, h.below x);
   coming = λ x hx. ⊎_elim
-    (λ e. subst (λ y. d y + count y (without a p) ≡ full) (sym e) (omega (arith, g.here, without_here a p there, h.coming a (subst (λ y. IsTrue (has y now)) e hx))))
-    (λ n. omega (arith, g.elsewhere x n, without_elsewhere a x p there n, h.coming x hx))
-    (cases_eq x a);
+      (λ e. subst (λ y. d y + count y (without a p) ≡ full) (sym e) (omega (arith, g.here, without_here a p there, h.coming a (subst (λ y. IsTrue (has y now)) e hx))))
+      (λ n. omega (arith, g.elsewhere x n, without_elsewhere a x p there n, h.coming x hx))
+      (cases_eq x a);
   waiting = λ x hx. g.elsewhere x (apart now other once a x (pending_in now other full done c p h a there) hx) ∙ h.waiting x hx;
 }
 
@@ -74,9 +74,9 @@ pub phase_opens : (now other : List ℕ) (full done : ℕ) (c d : ℕ → ℕ) (
 phase_opens now other full done c d a once h there g = record {
   below = λ x. without_less a x other there;
   coming = λ x hx. ⊎_elim
-    (λ e. subst (λ y. d y + count y (without a other) ≡ suc done) (sym e) (omega (arith, g.here, without_here a other there, once a, h.waiting a there)))
-    (λ n. omega (arith, g.elsewhere x n, without_elsewhere a x other there n, h.waiting x hx, once x, count_from_has x other hx))
-    (cases_eq x a);
+      (λ e. subst (λ y. d y + count y (without a other) ≡ suc done) (sym e) (omega (arith, g.here, without_here a other there, once a, h.waiting a there)))
+      (λ n. omega (arith, g.elsewhere x n, without_elsewhere a x other there n, h.waiting x hx, once x, count_from_has x other hx))
+      (cases_eq x a);
   waiting = λ x hx. omega (arith, g.elsewhere x (apart other now (Once-swap now other once) a x there hx), h.coming x hx);
 }
 

@@ -1,11 +1,10 @@
 -- Processes and commands have the empty trace, and each prefix of a trace.
-use Rattle.std.proofs.Common.{◌≡◌, ℕ, Bool, List, [], ◌∷◌, ◌++◌, IsTrue, sym, subst, ap, append_assoc, filter}
+use Rattle.std.proofs.Common.{ℕ, List, [], ◌∷◌, ◌++◌, IsTrue, subst, append_assoc}
 use Rattle.std.specs.List.{AllByRecursion}
 use Rattle.std.proofs.lemmas.List.Elements.{filter-append}
 use Rattle.cmd_tree.specs.declared.tree.Proc.{Proc}
 use Rattle.cmd_tree.specs.Limits.{IsProc, marks_of_proc, marks_of_all}
 use Rattle.cmd_tree.specs.Meaning.{WholeProc, TraceOf, Trace, has_symbol, project}
-use Rattle.cmd_tree.specs.Residual.{start}
 use Rattle.cmd_tree.proofs.Paths.{trace_runs}
 
 pub TraceOf-nil : (p : Proc) → IsProc p → TraceOf p []

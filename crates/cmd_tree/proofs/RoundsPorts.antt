@@ -1,5 +1,5 @@
 -- The traces of a process in rounds whose symbols are ports by number: the inputs first, and then the outputs.
-use Rattle.std.proofs.Common.{◌≡◌, ◌⊎◌, inl, inr, ⊎_elim, ◌↔◌, ℕ, zero, suc, ◌+◌, ◌-◌, ◌<◌, ◌≤◌, Bool, true, false, List, [], ◌∷◌, ◌++◌, length, nat_eq, if◌then◌else◌, IsTrue, refl, sym, ap, ◌∙◌, subst, arith, append_assoc, append-nil}
+use Rattle.std.proofs.Common.{◌≡◌, inl, inr, ⊎_elim, ◌↔◌, ℕ, zero, suc, ◌+◌, ◌-◌, ◌<◌, ◌≤◌, List, [], ◌∷◌, ◌++◌, IsTrue, refl, sym, ap, ◌∙◌, subst, arith, append_assoc, append-nil}
 use Rattle.std.specs.List.{range_with_len}
 use Rattle.std.proofs.lemmas.Bool.{cases_eq, cases_lt}
 use Rattle.std.proofs.lemmas.List.FromFn.{length-range_with_len}
@@ -45,9 +45,9 @@ count_after a s (suc k) h = count_other a s (range_with_len (s + 1) k) (λ e. om
 count_inside : (a s k : ℕ) → s ≤ a → a < s + k → count a (range_with_len s k) ≡ 1
 count_inside a s zero h l = absurd (omega arith)
 count_inside a s (suc k) h l = ⊎_elim
-  (λ e. subst (λ x. count a (x ∷ range_with_len (s + 1) k) ≡ 1) e (omega (arith, count_same a (range_with_len (s + 1) k), count_before a (s + 1) k (omega arith))))
-  (λ n. count_other a s (range_with_len (s + 1) k) n ∙ count_inside a (s + 1) k (omega arith) (omega arith))
-  (cases_eq a s)
+    (λ e. subst (λ x. count a (x ∷ range_with_len (s + 1) k) ≡ 1) e (omega (arith, count_same a (range_with_len (s + 1) k), count_before a (s + 1) k (omega arith))))
+    (λ n. count_other a s (range_with_len (s + 1) k) n ∙ count_inside a (s + 1) k (omega arith) (omega arith))
+    (cases_eq a s)
 
 has_row : (a s k : ℕ) → s ≤ a → a < s + k → IsTrue (has a (range_with_len s k))
 has_row a s k h l = has_from_count a (range_with_len s k) (omega (arith, count_inside a s k h l))
@@ -60,9 +60,9 @@ row_has a s k h = (
 
 rows_once : (n m : ℕ) → Once (range_with_len 0 n) (range_with_len n m)
 rows_once n m a = ⊎_elim
-  (λ l. omega (arith, count_inside a 0 n (omega arith) (omega arith), count_before a n m l))
-  (λ g. ⊎_elim (λ l. omega (arith, count_after a 0 n (omega arith), count_inside a n m g l)) (λ l. omega (arith, count_after a 0 n (omega arith), count_after a n m l)) (cases_lt a (n + m)))
-  (cases_lt a n)
+    (λ l. omega (arith, count_inside a 0 n (omega arith) (omega arith), count_before a n m l))
+    (λ g. ⊎_elim (λ l. omega (arith, count_after a 0 n (omega arith), count_inside a n m g l)) (λ l. omega (arith, count_after a 0 n (omega arith), count_after a n m l)) (cases_lt a (n + m)))
+    (cases_lt a n)
 
 -- ---- the rule by ports
 
@@ -81,8 +81,7 @@ symbols_from_ports n m c a (inr h) = inr (has_row a n m h.0 h.1, λ i hi. h.2 i 
 
 pub rounds_ports : (n m : ℕ) → 0 < n → 0 < m → (t : List ℕ) → Trace (rounds n m ∷ []) t ↔ Rounds n m t
 rounds_ports n m hn hm t =
-    let k = rounds_traces (range_with_len 0 n) (range_with_len n m) (rows_once n m) (omega (arith, length-range_with_len 0 n)) (omega (arith, length-range_with_len n m)) t in
-    (
+    let k = rounds_traces (range_with_len 0 n) (range_with_len n m) (rows_once n m) (omega (arith, length-range_with_len 0 n)) (omega (arith, length-range_with_len n m)) t in (
       λ h. Follows-map (λ u a. MayCome (range_with_len 0 n) (range_with_len n m) (λ q. count q u) a) (λ u p. RoundsAt n m (λ q. count q u) p) (λ u a r. ports_from_symbols n m (λ q. count q u) a r) [] t (k.0 h),
       λ h. k.1 (Follows-map (λ u p. RoundsAt n m (λ q. count q u) p) (λ u a. MayCome (range_with_len 0 n) (range_with_len n m) (λ q. count q u) a) (λ u a r. symbols_from_ports n m (λ q. count q u) a r) [] t h),
     )

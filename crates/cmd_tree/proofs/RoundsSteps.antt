@@ -1,5 +1,5 @@
 -- The steps of a process in rounds, by counts.
-use Rattle.std.proofs.Common.{◌≡◌, ◌≢◌, ◌⊎◌, inl, inr, ⊎_elim, ◌↔◌, ℕ, suc, ◌+◌, ◌<◌, ◌≤◌, List, [], ◌∷◌, ◌++◌, length, map, IsTrue, refl, sym, ap, ◌∙◌, subst, arith, Option, Some, None}
+use Rattle.std.proofs.Common.{◌≡◌, ◌⊎◌, inl, inr, ℕ, suc, ◌<◌, List, [], ◌∷◌, ◌++◌, length, map, IsTrue, refl, sym, ap, ◌∙◌, subst, arith, Option, Some}
 use Rattle.cmd_tree.specs.declared.tree.Mark.{Mark}
 use Rattle.cmd_tree.specs.Tree.{TSeq, TBurst, Done, Then}
 use Rattle.cmd_tree.specs.Meaning.{symbols}
@@ -77,16 +77,14 @@ module _ (ins outs : List ℕ) where
 
     takes_opens : (c d : ℕ → ℕ) (l : Left) (a : ℕ) (r : TSeq) → r ≡ Done → IsTrue (has a outs) → l.pending ≡ [] → Takes c l → Grew c a d → MayCome ins outs c a × Stands d (record { pending = without a outs; rest = r })
     takes_opens c d l a r e there none t g =
-        let phase : Phase ins outs (suc t.round) t.round c [] = subst (λ p. Phase ins outs (suc t.round) t.round c p) none t.phase in
-        (
+        let phase : Phase ins outs (suc t.round) t.round c [] = subst (λ p. Phase ins outs (suc t.round) t.round c p) none t.phase in (
           inr (there, λ i h. omega (arith, phase.waiting a there, phase.coming i h)),
           inr (record { at = e; round = suc t.round; phase = phase_opens ins outs (suc t.round) t.round c d a once phase there g }),
         )
 
     gives_opens : (c d : ℕ → ℕ) (l : Left) (a : ℕ) (r : TSeq) → r ≡ answer → IsTrue (has a ins) → l.pending ≡ [] → Gives c l → Grew c a d → MayCome ins outs c a × Stands d (record { pending = without a ins; rest = r })
     gives_opens c d l a r e there none t g =
-        let phase : Phase outs ins t.round t.round c [] = subst (λ p. Phase outs ins t.round t.round c p) none t.phase in
-        (
+        let phase : Phase outs ins t.round t.round c [] = subst (λ p. Phase outs ins t.round t.round c p) none t.phase in (
           inl (there, λ o h. omega (arith, phase.waiting a there, phase.coming o h)),
           inl (record { at = e; round = t.round; phase = phase_opens outs ins t.round t.round c d a (Once-swap ins outs once) phase there g }),
         )

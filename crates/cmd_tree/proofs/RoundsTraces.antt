@@ -1,18 +1,16 @@
 -- The traces of a process in rounds, by counts.
-use Rattle.std.proofs.Common.{◌≡◌, ◌⊎◌, inl, inr, ⊎_elim, ◌↔◌, ℕ, ◌+◌, ◌<◌, ◌≤◌, Bool, true, false, cond, ◌||◌, List, [], ◌∷◌, ◌++◌, length, map, nat_eq, IsTrue, refl, sym, ap, ◌∙◌, subst, arith, append-nil, filter, Option, Some, None}
-use Rattle.std.specs.List.{AllByRecursion, list_any}
+use Rattle.std.proofs.Common.{◌≡◌, inl, inr, ◌↔◌, ℕ, ◌<◌, Bool, true, false, cond, ◌||◌, List, [], ◌∷◌, ◌++◌, length, map, nat_eq, IsTrue, refl, sym, ap, ◌∙◌, subst, arith, append-nil, filter}
+use Rattle.std.specs.List.{AllByRecursion}
 use Rattle.std.proofs.lemmas.List.Folds.{list_any-append}
 use Rattle.cmd_tree.specs.declared.tree.Mark.{Mark}
-use Rattle.cmd_tree.specs.declared.tree.Proc.{Proc}
-use Rattle.cmd_tree.specs.Tree.{Done}
 use Rattle.cmd_tree.specs.Limits.{IsProc, marks_of_proc, marks_of_all}
-use Rattle.cmd_tree.specs.Meaning.{symbols, TraceOf, Trace, has_symbol, project}
-use Rattle.cmd_tree.specs.Residual.{has, Left, Runs, start}
+use Rattle.cmd_tree.specs.Meaning.{symbols, TraceOf, Trace, has_symbol}
+use Rattle.cmd_tree.specs.Residual.{has, start}
 use Rattle.cmd_tree.specs.Rounds.{count, Follows}
 use Rattle.cmd_tree.specs.RoundsProc.{input, output, rounds_of, MayCome}
 use Rattle.cmd_tree.proofs.Paths.{trace_runs}
 use Rattle.cmd_tree.proofs.Phases.{Once}
-use Rattle.cmd_tree.proofs.RoundsSteps.{symbols_input, symbols_output, answer, body, Stands, follows_from_runs, runs_from_follows}
+use Rattle.cmd_tree.proofs.RoundsSteps.{symbols_input, symbols_output, Stands, follows_from_runs, runs_from_follows}
 
 -- ---- the symbols of the process
 

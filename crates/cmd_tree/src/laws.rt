@@ -11,15 +11,13 @@ ghost use Rattle.cmd_tree.specs.RoundsProc.{rounds, rounds_of, MayCome};
 /// The traces of a process are the lists of symbols that are steps one after another from its start.
 pub fn traces_are_steps()
     ensures { (p : Proc) (t : List ℕ) → IsProc p → (TraceOf p t ↔ Runs p.body (start p) t) }
-{
-}
+{}
 
 /// A list of processes has the empty trace, and each prefix of a trace.
 pub fn traces_are_closed()
     ensures empty { (ps : List Proc) → AllByRecursion IsProc ps → Trace ps [] }
     ensures prefixes { (ps : List Proc) (t u : List ℕ) → Trace ps (t ++ u) → Trace ps t }
-{
-}
+{}
 
 /// The traces of inputs and outputs in rounds are those that the count rule allows at each place,
 /// by symbols and by ports. The empty list is one, and a longer one is one where the one before its
@@ -29,5 +27,4 @@ pub fn rounds_by_counts()
     ensures ports { (n m : ℕ) (t : List ℕ) → 0 < n → 0 < m → (Trace (rounds n m ∷ []) t ↔ Rounds n m t) }
     ensures empty { (n m : ℕ) → Rounds n m [] }
     ensures push { (n m : ℕ) (t : List ℕ) (p : ℕ) → (Rounds n m (t ++ p ∷ []) ↔ (Rounds n m t × RoundsAt n m (λ q. count q t) p)) }
-{
-}
+{}
