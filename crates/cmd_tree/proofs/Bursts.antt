@@ -1,10 +1,15 @@
 -- Permutations of numbers, by counts and by taking one number out.
-use Rattle.std.proofs.Common.{◌≡◌, ℕ, ◌+◌, ◌<◌, Bool, true, false, true≢false, cond, ◌||◌, List, [], ◌∷◌, nat_eq, if◌then◌else◌, IsTrue, refl, sym, ap, ◌∙◌, subst, arith, count_by, eqb-true, eq-eqb, IsPermutation}
+use Rattle.std.proofs.Common.{◌≡◌, ℕ, ◌+◌, ◌<◌, ◌≤◌, Bool, true, false, true≢false, cond, ◌||◌, List, [], ◌∷◌, ◌++◌, nat_eq, if◌then◌else◌, IsTrue, refl, sym, ap, ◌∙◌, subst, arith, count_by, eqb-true, eq-eqb, IsPermutation}
+use Rattle.std.specs.List.{AllByRecursion, IsDistinct}
 use Rattle.std.proofs.lemmas.List.Recursion.{is_count_by}
 use Rattle.std.proofs.lemmas.List.Sorted.{IsPermutation-refl, IsPermutation-sym, IsPermutation-trans, IsPermutation-cons, IsPermutation-middle, sum_by-IsPermutation, length_permutation}
 use Rattle.std.proofs.lemmas.List.{nil_from_length}
 use Rattle.cmd_tree.specs.Residual.{has, without}
-use Rattle.cmd_tree.specs.Rounds.{count}
+
+-- how often a stands in t
+abbrev pub count : ℕ → List ℕ → ℕ
+count a [] = 0
+count a (x ∷ t) = if nat_eq a x then 1 + count a t else count a t
 
 pub count_is : (a : ℕ) (xs : List ℕ) → count a xs ≡ count_by (nat_eq a) xs
 count_is a xs = is_count_by (count a) (nat_eq a) refl (λ x ys. refl) xs
@@ -78,3 +83,25 @@ nil_perm xs h = nil_from_length xs (length_permutation [] xs h)
 
 pub count_without : (a b : ℕ) (xs : List ℕ) → IsTrue (has a xs) → count b xs ≡ count b (a ∷ without a xs)
 count_without a b xs h = perm_counts xs (a ∷ without a xs) (pull a xs h) b
+
+pub count_append : (a : ℕ) (xs ys : List ℕ) → count a (xs ++ ys) ≡ count a xs + count a ys
+count_append a [] ys = omega arith
+count_append a (x ∷ xs) ys = by (nat_eq a x) (count a xs) (count a (xs ++ ys)) (count_append a xs ys)
+  where
+    by : (b : Bool) (m k : ℕ) → k ≡ m + count a ys → (if b then 1 + k else k) ≡ (if b then 1 + m else m) + count a ys
+    by true m k e = omega arith
+    by false m k e = e
+
+-- in a list of different numbers each stands at most once
+absent : (a : ℕ) (xs : List ℕ) → AllByRecursion (λ y. nat_eq a y ≡ false) xs → count a xs ≡ 0
+absent a [] h = refl
+absent a (x ∷ xs) h = ap (λ b. if b then 1 + count a xs else count a xs) h.0 ∙ absent a xs h.1
+
+pub distinct_once : (a : ℕ) (xs : List ℕ) → IsDistinct nat_eq xs → count a xs ≤ 1
+unfolding IsDistinct
+distinct_once a [] h = omega arith
+distinct_once a (x ∷ xs) h = by (nat_eq a x) refl (distinct_once a xs h.1)
+  where
+    by : (b : Bool) → nat_eq a x ≡ b → count a xs ≤ 1 → (if b then 1 + count a xs else count a xs) ≤ 1
+    by true e l = omega (arith, absent a xs (subst (λ z. AllByRecursion (λ y. nat_eq z y ≡ false) xs) (sym (eqb-true a x e)) h.0))
+    by false e l = l

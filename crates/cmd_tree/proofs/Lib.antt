@@ -2,6 +2,7 @@ pub mod Bursts
 pub mod Cuts
 pub mod Paths
 pub mod Prefixes
+pub mod RoundsRule
 pub mod Phases
 pub mod RoundsSteps
 pub mod RoundsTraces

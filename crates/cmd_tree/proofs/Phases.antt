@@ -1,32 +1,24 @@
 -- The counts of inputs and outputs in a round: those of one list come while their pending ones are left, and then it is the other's turn.
-use Rattle.std.proofs.Common.{◌≡◌, ⊎_elim, ℕ, suc, ◌+◌, ◌<◌, ◌≤◌, Bool, true, false, List, [], ◌∷◌, ◌++◌, length, nat_eq, if◌then◌else◌, IsTrue, refl, sym, ap, ◌∙◌, subst, arith, ne_eqb}
+use Rattle.std.proofs.Common.{◌≡◌, ⊎_elim, ℕ, suc, ◌+◌, ◌<◌, ◌≤◌, List, [], ◌∷◌, ◌++◌, length, if◌then◌else◌, IsTrue, refl, sym, ap, ◌∙◌, subst, arith, ne_eqb}
 use Rattle.std.proofs.lemmas.Bool.{cases_eq}
 use Rattle.cmd_tree.specs.Residual.{has, without}
-use Rattle.cmd_tree.specs.Rounds.{count}
-use Rattle.cmd_tree.proofs.Bursts.{count_same, count_without, has_from_count, count_from_has}
+use Rattle.cmd_tree.specs.Rounds.{counts}
+use Rattle.cmd_tree.proofs.Bursts.{count, count_same, count_without, has_from_count, count_from_has}
+use Rattle.cmd_tree.proofs.RoundsRule.{counts_end}
 
 pub count_other : (a x : ℕ) (t : List ℕ) → (a ≡ x → ⊥) → count a (x ∷ t) ≡ count a t
 count_other a x t n = ap (λ b. if b then 1 + count a t else count a t) (ne_eqb a x n)
 
 -- c with one more a
 pub record Grew (c : ℕ → ℕ) (a : ℕ) (d : ℕ → ℕ) : Type 0 where
-  pub here : d a ≡ 1 + c a
+  pub here : d a ≡ suc (c a)
   pub elsewhere : (q : ℕ) → (q ≡ a → ⊥) → d q ≡ c q
 
-count_push_here : (a : ℕ) (u : List ℕ) → count a (u ++ a ∷ []) ≡ 1 + count a u
-count_push_here a [] = count_same a []
-count_push_here a (x ∷ u) = by (nat_eq a x) (count a u) (count a (u ++ a ∷ [])) (count_push_here a u)
-  where
-    by : (b : Bool) (m n : ℕ) → n ≡ 1 + m → (if b then 1 + n else n) ≡ 1 + (if b then 1 + m else m)
-    by true m n e = omega arith
-    by false m n e = e
-
-count_push_elsewhere : (q a : ℕ) (u : List ℕ) → (q ≡ a → ⊥) → count q (u ++ a ∷ []) ≡ count q u
-count_push_elsewhere q a [] h = count_other q a [] h
-count_push_elsewhere q a (x ∷ u) h = ap (λ n. if nat_eq q x then 1 + n else n) (count_push_elsewhere q a u h)
-
-pub count_grows : (u : List ℕ) (a : ℕ) → Grew (λ q. count q u) a (λ q. count q (u ++ a ∷ []))
-count_grows u a = record { here = count_push_here a u; elsewhere = λ q h. count_push_elsewhere q a u h }
+pub counts_grow : (u : List ℕ) (a : ℕ) → Grew (counts u) a (counts (u ++ a ∷ []))
+counts_grow u a = record {
+  here = ⊎_elim (λ h. h.1) (λ h. absurd (h.0 refl)) (counts_end u a a);
+  elsewhere = λ q n. ⊎_elim (λ h. absurd (n h.0)) (λ h. h.1) (counts_end u a q);
+}
 
 -- each number stands at most once in both lists
 abbrev pub Once : List ℕ → List ℕ → Type 0

@@ -1,36 +1,16 @@
 -- The traces of a process in rounds whose symbols are ports by number: the inputs first, and then the outputs.
-use Rattle.std.proofs.Common.{◌≡◌, inl, inr, ⊎_elim, ◌↔◌, ℕ, zero, suc, ◌+◌, ◌-◌, ◌<◌, ◌≤◌, List, [], ◌∷◌, ◌++◌, IsTrue, refl, sym, ap, ◌∙◌, subst, arith, append_assoc, append-nil}
+use Rattle.std.proofs.Common.{◌≡◌, inl, inr, ⊎_elim, ◌↔◌, ℕ, zero, suc, ◌+◌, ◌-◌, ◌<◌, ◌≤◌, List, [], ◌∷◌, IsTrue, refl, ap, ◌∙◌, subst, arith}
 use Rattle.std.specs.List.{range_with_len}
 use Rattle.std.proofs.lemmas.Bool.{cases_eq, cases_lt}
 use Rattle.std.proofs.lemmas.List.FromFn.{length-range_with_len}
 use Rattle.cmd_tree.specs.Meaning.{Trace}
 use Rattle.cmd_tree.specs.Residual.{has}
-use Rattle.cmd_tree.specs.Rounds.{count, Follows, RoundsAt, Rounds}
+use Rattle.cmd_tree.specs.Rounds.{counts, RoundsAt, Rounds}
 use Rattle.cmd_tree.specs.RoundsProc.{rounds, MayCome}
-use Rattle.cmd_tree.proofs.Bursts.{count_same, has_from_count, count_from_has}
+use Rattle.cmd_tree.proofs.Bursts.{count, count_same, has_from_count, count_from_has}
 use Rattle.cmd_tree.proofs.Phases.{count_other, Once}
+use Rattle.cmd_tree.proofs.RoundsRule.{follows_by}
 use Rattle.cmd_tree.proofs.RoundsTraces.{rounds_traces}
-
--- ---- rules at each place
-
-pub Follows-map : (R S : List ℕ → ℕ → Type 0) → ((u : List ℕ) (a : ℕ) → R u a → S u a) → (u t : List ℕ) → Follows R u t → Follows S u t
-Follows-map R S f u [] h = tt
-Follows-map R S f u (a ∷ t) h = (f u a h.0, Follows-map R S f (u ++ a ∷ []) t h.1)
-
-follows_push : (R : List ℕ → ℕ → Type 0) (u t : List ℕ) (a : ℕ) → Follows R u t → R (u ++ t) a → Follows R u (t ++ a ∷ [])
-follows_push R u [] a h r = (subst (λ v. R v a) (append-nil u) r, tt)
-follows_push R u (x ∷ t) a h r = (h.0, follows_push R (u ++ x ∷ []) t a h.1 (subst (λ v. R v a) (sym (append_assoc u (x ∷ []) t)) r))
-
-follows_front : (R : List ℕ → ℕ → Type 0) (u t v : List ℕ) → Follows R u (t ++ v) → Follows R u t
-follows_front R u [] v h = tt
-follows_front R u (x ∷ t) v h = (h.0, follows_front R (u ++ x ∷ []) t v h.1)
-
-follows_last : (R : List ℕ → ℕ → Type 0) (u t : List ℕ) (a : ℕ) → Follows R u (t ++ a ∷ []) → R (u ++ t) a
-follows_last R u [] a h = subst (λ v. R v a) (sym (append-nil u)) h.0
-follows_last R u (x ∷ t) a h = subst (λ v. R v a) (append_assoc u (x ∷ []) t) (follows_last R (u ++ x ∷ []) t a h.1)
-
-pub Follows-push : (R : List ℕ → ℕ → Type 0) (u t : List ℕ) (a : ℕ) → Follows R u (t ++ a ∷ []) ↔ (Follows R u t × R (u ++ t) a)
-Follows-push R u t a = (λ h. (follows_front R u t (a ∷ []) h, follows_last R u t a h), λ h. follows_push R u t a h.0 h.1)
 
 -- ---- numbers in a row
 
@@ -82,13 +62,6 @@ symbols_from_ports n m c a (inr h) = inr (has_row a n m h.0 h.1, λ i hi. h.2 i 
 pub rounds_ports : (n m : ℕ) → 0 < n → 0 < m → (t : List ℕ) → Trace (rounds n m ∷ []) t ↔ Rounds n m t
 rounds_ports n m hn hm t =
     let k = rounds_traces (range_with_len 0 n) (range_with_len n m) (rows_once n m) (omega (arith, length-range_with_len 0 n)) (omega (arith, length-range_with_len n m)) t in (
-      λ h. Follows-map (λ u a. MayCome (range_with_len 0 n) (range_with_len n m) (λ q. count q u) a) (λ u p. RoundsAt n m (λ q. count q u) p) (λ u a r. ports_from_symbols n m (λ q. count q u) a r) [] t (k.0 h),
-      λ h. k.1 (Follows-map (λ u p. RoundsAt n m (λ q. count q u) p) (λ u a. MayCome (range_with_len 0 n) (range_with_len n m) (λ q. count q u) a) (λ u a r. symbols_from_ports n m (λ q. count q u) a r) [] t h),
+      λ h. follows_by (λ u a. MayCome (range_with_len 0 n) (range_with_len n m) (counts u) a) (λ u p. RoundsAt n m (counts u) p) (λ u a r. ports_from_symbols n m (counts u) a r) [] t (k.0 h),
+      λ h. k.1 (follows_by (λ u p. RoundsAt n m (counts u) p) (λ u a. MayCome (range_with_len 0 n) (range_with_len n m) (counts u) a) (λ u a r. symbols_from_ports n m (counts u) a r) [] t h),
     )
-
--- one more port
-pub rounds_push : (n m : ℕ) (t : List ℕ) (p : ℕ) → Rounds n m (t ++ p ∷ []) ↔ (Rounds n m t × RoundsAt n m (λ q. count q t) p)
-rounds_push n m t p = Follows-push (λ u q. RoundsAt n m (λ r. count r u) q) [] t p
-
-pub rounds_nil : (n m : ℕ) → Rounds n m []
-rounds_nil n m = tt

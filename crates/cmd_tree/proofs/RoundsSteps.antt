@@ -5,10 +5,10 @@ use Rattle.cmd_tree.specs.Tree.{TSeq, TBurst, Done, Then}
 use Rattle.cmd_tree.specs.Meaning.{symbols}
 use Rattle.cmd_tree.specs.Join.{join}
 use Rattle.cmd_tree.specs.Residual.{has, without, Left, Next, Step, within, opens, Runs}
-use Rattle.cmd_tree.specs.Rounds.{count, Follows}
+use Rattle.cmd_tree.specs.Rounds.{counts, Follows}
 use Rattle.cmd_tree.specs.RoundsProc.{input, output, MayCome}
 use Rattle.cmd_tree.proofs.Bursts.{has_from_count, count_from_has}
-use Rattle.cmd_tree.proofs.Phases.{Grew, count_grows, Once, Once-swap, Phase, pending_in, phase_within, phase_opens, none_pending, some_member}
+use Rattle.cmd_tree.proofs.Phases.{Grew, counts_grow, Once, Once-swap, Phase, pending_in, phase_within, phase_opens, none_pending, some_member}
 
 pub symbols_input : (ins : List ℕ) → symbols (map input ins) ≡ ins
 symbols_input [] = refl
@@ -120,17 +120,17 @@ module _ (ins outs : List ℕ) where
     -- ---- so runs follow the counts
 
     abbrev pub CountRule : List ℕ → ℕ → Type 0
-    CountRule u a = MayCome ins outs (λ q. count q u) a
+    CountRule u a = MayCome ins outs (counts u) a
 
-    pub follows_from_runs : (t : List ℕ) (u : List ℕ) (l : Left) → Stands (λ q. count q u) l → Runs body l t → Follows CountRule u t
+    pub follows_from_runs : (t : List ℕ) (u : List ℕ) (l : Left) → Stands (counts u) l → Runs body l t → Follows CountRule u t
     follows_from_runs [] u l s r = tt
     follows_from_runs (a ∷ t) u l s r =
-        let k = step_allowed (λ q. count q u) (λ q. count q (u ++ a ∷ [])) l a r.0 r.1 s (count_grows u a) in
+        let k = step_allowed (counts u) (counts (u ++ a ∷ [])) l a r.0 r.1 s (counts_grow u a) in
         (k.0, follows_from_runs t (u ++ a ∷ []) r.0 k.1 r.2)
 
-    pub runs_from_follows : (t : List ℕ) (u : List ℕ) (l : Left) → Stands (λ q. count q u) l → Follows CountRule u t → Runs body l t
+    pub runs_from_follows : (t : List ℕ) (u : List ℕ) (l : Left) → Stands (counts u) l → Follows CountRule u t → Runs body l t
     runs_from_follows [] u l s f = tt
     runs_from_follows (a ∷ t) u l s f =
-        let m = allowed_step (λ q. count q u) l a s f.0 in
-        let k = step_allowed (λ q. count q u) (λ q. count q (u ++ a ∷ [])) l a m.0 m.1 s (count_grows u a) in
+        let m = allowed_step (counts u) l a s f.0 in
+        let k = step_allowed (counts u) (counts (u ++ a ∷ [])) l a m.0 m.1 s (counts_grow u a) in
         (m.0, m.1, runs_from_follows t (u ++ a ∷ []) m.0 k.1 f.1)

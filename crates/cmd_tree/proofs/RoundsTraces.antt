@@ -6,7 +6,7 @@ use Rattle.cmd_tree.specs.declared.tree.Mark.{Mark}
 use Rattle.cmd_tree.specs.Limits.{IsProc, marks_of_proc, marks_of_all}
 use Rattle.cmd_tree.specs.Meaning.{symbols, TraceOf, Trace, has_symbol}
 use Rattle.cmd_tree.specs.Residual.{has, start}
-use Rattle.cmd_tree.specs.Rounds.{count, Follows}
+use Rattle.cmd_tree.specs.Rounds.{counts, Follows}
 use Rattle.cmd_tree.specs.RoundsProc.{input, output, rounds_of, MayCome}
 use Rattle.cmd_tree.proofs.Paths.{trace_runs}
 use Rattle.cmd_tree.proofs.Phases.{Once}
@@ -45,9 +45,9 @@ may_come_known : (ins outs : List ℕ) (c : ℕ → ℕ) (x : ℕ) → MayCome i
 may_come_known ins outs c x (inl h) = ap (λ b. b || has x outs) h.0
 may_come_known ins outs c x (inr h) = ap (λ b. has x ins || b) h.0 ∙ or_true (has x ins)
 
-follows_known : (ins outs : List ℕ) (t u : List ℕ) → Follows (λ v a. MayCome ins outs (λ q. count q v) a) u t → AllByRecursion (λ x. IsTrue (has x ins || has x outs)) t
+follows_known : (ins outs : List ℕ) (t u : List ℕ) → Follows (λ v a. MayCome ins outs (counts v) a) u t → AllByRecursion (λ x. IsTrue (has x ins || has x outs)) t
 follows_known ins outs [] u f = tt
-follows_known ins outs (a ∷ t) u f = (may_come_known ins outs (λ q. count q u) a f.0, follows_known ins outs t (u ++ a ∷ []) f.1)
+follows_known ins outs (a ∷ t) u f = (may_come_known ins outs (counts u) a f.0, follows_known ins outs t (u ++ a ∷ []) f.1)
 
 -- ---- the theorem
 
@@ -59,24 +59,24 @@ module _ (ins outs : List ℕ) (once : Once ins outs) (some_in : 0 < length ins)
       positive f [] h = absurd (omega arith)
       positive f (x ∷ xs) h = omega arith
 
-  begins : Stands ins outs (λ q. count q []) (start (rounds_of ins outs))
+  begins : Stands ins outs (counts []) (start (rounds_of ins outs))
   begins = inr (record { at = refl; round = 0; phase = record { below = λ x. omega arith; coming = λ x h. refl; waiting = λ x h. refl } })
 
-  pub TraceOf-rounds : (t : List ℕ) → TraceOf (rounds_of ins outs) t ↔ Follows (λ u a. MayCome ins outs (λ q. count q u) a) [] t
+  pub TraceOf-rounds : (t : List ℕ) → TraceOf (rounds_of ins outs) t ↔ Follows (λ u a. MayCome ins outs (counts u) a) [] t
   TraceOf-rounds t = (
     λ k. follows_from_runs ins outs once some_in some_out t [] (start (rounds_of ins outs)) begins ((trace_runs (rounds_of ins outs) rounds_proc t).0 k),
     λ f. (trace_runs (rounds_of ins outs) rounds_proc t).1 (runs_from_follows ins outs once some_in some_out t [] (start (rounds_of ins outs)) begins f),
   )
 
-  pub rounds_traces : (t : List ℕ) → Trace (rounds_of ins outs ∷ []) t ↔ Follows (λ u a. MayCome ins outs (λ q. count q u) a) [] t
+  pub rounds_traces : (t : List ℕ) → Trace (rounds_of ins outs ∷ []) t ↔ Follows (λ u a. MayCome ins outs (counts u) a) [] t
   rounds_traces t = (forth, back)
     where
-      forth : Trace (rounds_of ins outs ∷ []) t → Follows (λ u a. MayCome ins outs (λ q. count q u) a) [] t
+      forth : Trace (rounds_of ins outs ∷ []) t → Follows (λ u a. MayCome ins outs (counts u) a) [] t
       forth k =
           let known = all_map (λ x. IsTrue (has_symbol (marks_of_all (rounds_of ins outs ∷ [])) x)) (λ x. IsTrue (has_symbol (marks_of_proc (rounds_of ins outs)) x)) (λ x h. sym (is_known_all ins outs x) ∙ h) t k.known in
           (TraceOf-rounds t).0 (subst (λ u. TraceOf (rounds_of ins outs) u) (filter_all (has_symbol (marks_of_proc (rounds_of ins outs))) t known) k.each.0)
 
-      back : Follows (λ u a. MayCome ins outs (λ q. count q u) a) [] t → Trace (rounds_of ins outs ∷ []) t
+      back : Follows (λ u a. MayCome ins outs (counts u) a) [] t → Trace (rounds_of ins outs ∷ []) t
       back f =
           let known = all_map (λ x. IsTrue (has x ins || has x outs)) (λ x. IsTrue (has_symbol (marks_of_proc (rounds_of ins outs)) x)) (λ x h. is_known ins outs x ∙ h) t (follows_known ins outs t [] f) in
           record {

@@ -1,11 +1,11 @@
 //! Laws of the definitions in `specs/`: each function here does nothing, and its contract is the law.
-ghost use Rattle.std.specs.Prelude.{◌↔◌, ℕ, ◌+◌, ◌<◌, ◌≤◌, List, [], ◌∷◌, ◌++◌, length};
-ghost use Rattle.std.specs.List.{AllByRecursion};
+ghost use Rattle.std.specs.Prelude.{◌≡◌, ◌↔◌, ℕ, ◌<◌, nat_eq, List, [], ◌∷◌, ◌++◌, length, count_by};
+ghost use Rattle.std.specs.List.{AllByRecursion, IsDistinct};
 ghost use Rattle.cmd_tree.specs.declared.tree.Proc.{Proc};
 ghost use Rattle.cmd_tree.specs.Limits.{IsProc};
 ghost use Rattle.cmd_tree.specs.Meaning.{TraceOf, Trace};
 ghost use Rattle.cmd_tree.specs.Residual.{Runs, start};
-ghost use Rattle.cmd_tree.specs.Rounds.{count, Follows, RoundsAt, Rounds};
+ghost use Rattle.cmd_tree.specs.Rounds.{counts, Follows, RoundsAt, Rounds};
 ghost use Rattle.cmd_tree.specs.RoundsProc.{rounds, rounds_of, MayCome};
 
 /// The traces of a process are the lists of symbols that are steps one after another from its start.
@@ -19,12 +19,12 @@ pub fn traces_are_closed()
     ensures prefixes { (ps : List Proc) (t u : List ℕ) → Trace ps (t ++ u) → Trace ps t }
 {}
 
-/// The traces of inputs and outputs in rounds are those that the count rule allows at each place,
-/// by symbols and by ports. The empty list is one, and a longer one is one where the one before its
-/// last port is, and that port may come.
+/// A process of rounds has the traces in which each symbol may come by the counts of those before it:
+/// of different symbols, and of ports by number. Its traces grow by the ports that may come.
 pub fn rounds_by_counts()
-    ensures symbols { (ins outs : List ℕ) → 0 < length ins → 0 < length outs → ((a : ℕ) → count a ins + count a outs ≤ 1) → (t : List ℕ) → (Trace (rounds_of ins outs ∷ []) t ↔ Follows (λ u a. MayCome ins outs (λ q. count q u) a) [] t) }
+    ensures symbols { (ins outs : List ℕ) (t : List ℕ) → 0 < length ins → 0 < length outs → IsDistinct nat_eq (ins ++ outs) → (Trace (rounds_of ins outs ∷ []) t ↔ Follows (λ u a. MayCome ins outs (counts u) a) [] t) }
     ensures ports { (n m : ℕ) (t : List ℕ) → 0 < n → 0 < m → (Trace (rounds n m ∷ []) t ↔ Rounds n m t) }
     ensures empty { (n m : ℕ) → Rounds n m [] }
-    ensures push { (n m : ℕ) (t : List ℕ) (p : ℕ) → (Rounds n m (t ++ p ∷ []) ↔ (Rounds n m t × RoundsAt n m (λ q. count q t) p)) }
+    ensures push { (n m : ℕ) (t : List ℕ) (p : ℕ) → (Rounds n m (t ++ p ∷ []) ↔ (Rounds n m t × RoundsAt n m (counts t) p)) }
+    ensures counted { (t : List ℕ) (p : ℕ) → counts t p ≡ count_by (nat_eq p) t }
 {}
