@@ -1,0 +1,2 @@
+//! A network in the place of one node of another.
+#![tactic(auto)]
