@@ -1,6 +1,6 @@
 -- A state of the joined network beside states of its two parts, and the three steps that keep them beside each other.
 use Rattle.std.proofs.Common.{◌≡◌, ◌≢◌, ℕ, List, [], ◌∷◌, ◌++◌, Bool, true, false, ◌&&◌, ◌||◌, Option, None, Some, sym, refl, ap, ◌∙◌, ◌⊎◌, inl, inr}
-use Rattle.std.proofs.lemmas.Bool.{cases_eq, cases_Bool}
+use Rattle.std.proofs.lemmas.Bool.{cases_eq, false≢true}
 use Rattle.net_core.specs.Runs.{Fabric, State, Event, Fire, Pass, after, grow, put}
 use Rattle.net_core.proofs.Updates.{grow_same, grow_other, put_same, put_other}
 use Rattle.substitute.proofs.Joins.{Half, Joins, mirror}
@@ -46,6 +46,14 @@ hold_other b v x (Some u) h = put_other b v x u (λ e. h (ap Some e))
 pub hold_at : (b : ℕ → Bool) (v : ℕ) (o : Option ℕ) → o ≡ Some v → hold b o ≡ b v
 hold_at b v o e = rw e refl
 
+pub none_held : (o : Option ℕ) → hold (λ v. false) o ≡ false
+none_held None = refl
+none_held (Some v) = refl
+
+pub held : (b : ℕ → Bool) (o : Option ℕ) → hold b o ≡ true → (v : ℕ) × (o ≡ Some v) × (b v ≡ true)
+held b None e = absurd (false≢true e)
+held b (Some v) e = (v, refl, e)
+
 pub record Follows (A : Fabric) (a : ℕ) (B : Fabric) (b : ℕ) (R : Fabric) (k : Joins A a B b R) (s l r : State) : Type 0 where
   pub left : (n : ℕ) → n ≢ a → s.trace (k.i n) ≡ l.trace n
   pub right : (n : ℕ) → n ≢ b → s.trace (k.j n) ≡ r.trace n
@@ -54,6 +62,14 @@ pub record Follows (A : Fabric) (a : ℕ) (B : Fabric) (b : ℕ) (R : Fabric) (k
 pub swap : (A : Fabric) (a : ℕ) (B : Fabric) (b : ℕ) (R : Fabric) (k : Joins A a B b R) (s l r : State)
   → Follows A a B b R k s l r → Follows B b A a R (mirror k) s r l
 swap A a B b R k s l r f = record {
+  left = f.right;
+  right = f.left;
+  lines = λ w. split_swap _ _ _ (f.lines w)
+}
+
+pub back : (A : Fabric) (a : ℕ) (B : Fabric) (b : ℕ) (R : Fabric) (k : Joins A a B b R) (s l r : State)
+  → Follows B b A a R (mirror k) s r l → Follows A a B b R k s l r
+back A a B b R k s l r f = record {
   left = f.right;
   right = f.left;
   lines = λ w. split_swap _ _ _ (f.lines w)
@@ -98,6 +114,12 @@ module _ (A : Fabric) (a : ℕ) (B : Fabric) (b : ℕ) (R : Fabric) (k : Joins A
       at_wire x (inl e) = split_none _ _ _ (put_same s.busy w false x e) (hold_same l.busy v false (k.here x) (ap k.here e ∙ is))
         (ap (λ y. hold r.busy (k.there y)) e ∙ split_other _ _ _ (f.lines w) (hold_at l.busy v (k.here w) is ∙ busy))
       at_wire x (inr h) = rw (put_other s.busy w false x h, hold_other l.busy v false (k.here x) (λ e. h (k.left.one x w v e is))) (f.lines x)
+
+  -- what a kept node of A may receive, R may hand to it
+  pub pass_fits : (w v : ℕ) → k.here w ≡ Some v → A.to v ≢ a → A.may (A.to v) (l.trace (A.to v) ++ A.into v ∷ [])
+    → Follows A a B b R k s l r → R.may (R.to w) (s.trace (R.to w) ++ R.into w ∷ [])
+  pass_fits w v is ne may f = rw (k.left.to w v is ne, k.left.into w v is ne, f.left (A.to v) ne)
+    ((k.left.may (A.to v) ne (l.trace (A.to v) ++ A.into v ∷ [])).1 may)
 
   -- a receives and b fires the same port, and R does nothing
   pub over : (w v : ℕ) → k.here w ≡ Some v → A.to v ≡ a → l.busy v ≡ true

@@ -1,2 +1,3 @@
 pub mod Joins
 pub mod Follows
+pub mod JoinedSound
