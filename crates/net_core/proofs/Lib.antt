@@ -12,3 +12,4 @@ pub mod Relabel
 pub mod RoundsRule
 pub mod Rounds
 pub mod RoundsNets
+pub mod Meets

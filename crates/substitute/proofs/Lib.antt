@@ -1,3 +1,4 @@
 pub mod Joins
 pub mod Follows
 pub mod JoinedSound
+pub mod JoinedExact
