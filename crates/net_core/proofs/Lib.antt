@@ -13,3 +13,4 @@ pub mod RoundsRule
 pub mod Rounds
 pub mod RoundsNets
 pub mod Meets
+pub mod Renumbered
