@@ -27,24 +27,24 @@ met_fire : (f : Fabric) (a n p : ℕ) (es : List Event) → Met f a es → (a �
 met_fire f a n p es m (inl e) = record {
   ports = p ∷ m.ports;
   meets = fires_here n p (sym e) m.meets;
-  adds = λ s. m.adds (after f s (Fire n p)) ∙ added_here s.trace n p a m.ports e
+  adds = λ s. m.adds (after f s (Fire n p)) ∙ added_here s.trace n p a m.ports e;
 }
 met_fire f a n p es m (inr h) = record {
   ports = m.ports;
   meets = fires_away n p (λ e. h (sym e)) m.meets;
-  adds = λ s. m.adds (after f s (Fire n p)) ∙ added_away s.trace n p a m.ports h
+  adds = λ s. m.adds (after f s (Fire n p)) ∙ added_away s.trace n p a m.ports h;
 }
 
 met_pass : (f : Fabric) (a w : ℕ) (es : List Event) → Met f a es → (a ≡ f.to w) ⊎ (a ≡ f.to w → ⊥) → Met f a (Pass w ∷ es)
 met_pass f a w es m (inl e) = record {
   ports = f.into w ∷ m.ports;
   meets = passes_here w (f.into w) (sym e) refl m.meets;
-  adds = λ s. m.adds (after f s (Pass w)) ∙ added_here s.trace (f.to w) (f.into w) a m.ports e
+  adds = λ s. m.adds (after f s (Pass w)) ∙ added_here s.trace (f.to w) (f.into w) a m.ports e;
 }
 met_pass f a w es m (inr h) = record {
   ports = m.ports;
   meets = passes_away w (λ e. h (sym e)) m.meets;
-  adds = λ s. m.adds (after f s (Pass w)) ∙ added_away s.trace (f.to w) (f.into w) a m.ports h
+  adds = λ s. m.adds (after f s (Pass w)) ∙ added_away s.trace (f.to w) (f.into w) a m.ports h;
 }
 
 pub met : (f : Fabric) (a : ℕ) (es : List Event) → Met f a es
@@ -54,8 +54,9 @@ met f a (Pass w ∷ es) = met_pass f a w es (met f a es) (cases_eq a (f.to w))
 
 grown : (may : ℕ → List ℕ → Type 0) (t : ℕ → List ℕ) (n p a : ℕ) → may a (t a) → may n (t n ++ p ∷ []) → may a (grow t n p a)
 grown may t n p a h g = elim (cases_eq a n) [
-    inl e ↦ subst (may a) (sym (grow_same t n p a e)) (subst (λ m. may m (t m ++ p ∷ [])) (sym e) g)
-  | inr d ↦ subst (may a) (sym (grow_other t n p a d)) h ]
+  | inl e ↦ subst (may a) (sym (grow_same t n p a e)) (subst (λ m. may m (t m ++ p ∷ [])) (sym e) g)
+  | inr d ↦ subst (may a) (sym (grow_other t n p a d)) h
+]
 
 -- A run keeps each node's trace among its traces.
 pub may_kept : (f : Fabric) (a : ℕ) (es : List Event) (s : State) → f.may a (s.trace a) → Run f s es → f.may a ((after_all f s es).trace a)

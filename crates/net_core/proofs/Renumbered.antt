@@ -1,5 +1,5 @@
 -- A network with other numbers for its nodes and its wires is sound where the first one is, and exact.
-use Rattle.std.proofs.Common.{◌≡◌, ◌≢◌, ◌⊎◌, ◌↔◌, inl, inr, ℕ, List, [], ◌∷◌, ◌++◌, Bool, true, false, refl, sym, ap, ◌∙◌, subst}
+use Rattle.std.proofs.Common.{◌≡◌, ◌↔◌, inl, inr, ℕ, List, [], ◌∷◌, ◌++◌, Bool, true, false, refl, sym, ap, ◌∙◌, subst}
 use Rattle.std.proofs.lemmas.Bool.{cases_eq}
 use Rattle.net_core.specs.Runs.{Fabric, State, start, Event, Fire, Pass, Enabled, Fits, Run, Safe, Sound, Exact, after, after_all, grow, put}
 use Rattle.net_core.proofs.Updates.{grow_same, grow_other, put_same, put_other}
@@ -53,25 +53,27 @@ module _ (A R : Fabric) (k : Renumbers A R) where
   same_wire v w e = sym (k.wire_old v) ∙ ap k.wire_back e ∙ k.wire_old w
 
   grown : (t u : ℕ → List ℕ) (n m p q : ℕ) → ((i : ℕ) → u (k.node i) ≡ t i) → m ≡ k.node n → q ≡ p
-    → (i : ℕ) → grow u m q (k.node i) ≡ grow t n p i
+      → (i : ℕ) → grow u m q (k.node i) ≡ grow t n p i
   grown t u n m p q same e f i = elim (cases_eq i n) [
-      inl h ↦ grow_same u m q (k.node i) (ap k.node h ∙ sym e) ∙ ap (λ x. x ++ q ∷ []) (same i) ∙ ap (λ x. t i ++ x ∷ []) f ∙ sym (grow_same t n p i h)
-    | inr h ↦ grow_other u m q (k.node i) (λ g. h (same_node i n (g ∙ e))) ∙ same i ∙ sym (grow_other t n p i h) ]
+    | inl h ↦ grow_same u m q (k.node i) (ap k.node h ∙ sym e) ∙ ap (λ x. x ++ q ∷ []) (same i) ∙ ap (λ x. t i ++ x ∷ []) f ∙ sym (grow_same t n p i h)
+    | inr h ↦ grow_other u m q (k.node i) (λ g. h (same_node i n (g ∙ e))) ∙ same i ∙ sym (grow_other t n p i h)
+  ]
 
   changed : (b c : ℕ → Bool) (w y : ℕ) (x : Bool) → ((v : ℕ) → c (k.wire v) ≡ b v) → y ≡ k.wire w
-    → (v : ℕ) → put c y x (k.wire v) ≡ put b w x v
+      → (v : ℕ) → put c y x (k.wire v) ≡ put b w x v
   changed b c w y x same e v = elim (cases_eq v w) [
-      inl h ↦ put_same c y x (k.wire v) (ap k.wire h ∙ sym e) ∙ sym (put_same b w x v h)
-    | inr h ↦ put_other c y x (k.wire v) (λ g. h (same_wire v w (g ∙ e))) ∙ same v ∙ sym (put_other b w x v h) ]
+    | inl h ↦ put_same c y x (k.wire v) (ap k.wire h ∙ sym e) ∙ sym (put_same b w x v h)
+    | inr h ↦ put_other c y x (k.wire v) (λ g. h (same_wire v w (g ∙ e))) ∙ same v ∙ sym (put_other b w x v h)
+  ]
 
   step : (s r : State) → Matches A R k s r → (e : Event) → Enabled A s e → Matches A R k (after A s e) (after R r (moved A R k e))
   step s r m (Fire n p) on = record {
     traces = grown s.trace r.trace n (k.node n) p p m.traces refl refl;
-    lines = changed s.busy r.busy (A.wire n p) (R.wire (k.node n) p) true m.lines (k.drives n p on.0)
+    lines = changed s.busy r.busy (A.wire n p) (R.wire (k.node n) p) true m.lines (k.drives n p on.0);
   }
   step s r m (Pass w) on = record {
     traces = grown s.trace r.trace (A.to w) (R.to (k.wire w)) (A.into w) (R.into (k.wire w)) m.traces (k.to w) (k.into w);
-    lines = changed s.busy r.busy w (k.wire w) false m.lines refl
+    lines = changed s.busy r.busy w (k.wire w) false m.lines refl;
   }
 
   may_new : (s r : State) → Matches A R k s r → (n p : ℕ) → A.may n (s.trace n ++ p ∷ []) → R.may (k.node n) (r.trace (k.node n) ++ p ∷ [])
@@ -91,28 +93,31 @@ module _ (A R : Fabric) (k : Renumbers A R) where
   fits_new : (s r : State) → Matches A R k s r → (e : Event) → Enabled A s e → Fits A s e → Fits R r (moved A R k e)
   fits_new s r m (Fire n p) on fit = ap r.busy (k.drives n p on.0) ∙ m.lines (A.wire n p) ∙ fit
   fits_new s r m (Pass w) on fit = subst (λ n. R.may n (r.trace n ++ R.into (k.wire w) ∷ [])) (sym (k.to w))
-    (subst (λ q. R.may (k.node (A.to w)) (r.trace (k.node (A.to w)) ++ q ∷ [])) (sym (k.into w)) (may_new s r m (A.to w) (A.into w) fit))
+      (subst (λ q. R.may (k.node (A.to w)) (r.trace (k.node (A.to w)) ++ q ∷ [])) (sym (k.into w)) (may_new s r m (A.to w) (A.into w) fit))
 
   safe_new : (es : List Event) (s r : State) → Matches A R k s r → Safe A s → Run R r es
-    → (e : Event) → Enabled R (after_all R r es) e → Fits R (after_all R r es) e
+      → (e : Event) → Enabled R (after_all R r es) e → Fits R (after_all R r es) e
   safe_new [] s r m safe run e on =
-    let old = moved_back A R k e in
-    let was : Enabled A s old = on_old s r m old (subst (Enabled R r) (sym (moved_new A R k e)) on) in
-    subst (Fits R r) (moved_new A R k e) (fits_new s r m old was (safe [] tt old was))
+      let old = moved_back A R k e in
+      let was : Enabled A s old = on_old s r m old (subst (Enabled R r) (sym (moved_new A R k e)) on) in
+      subst (Fits R r) (moved_new A R k e) (fits_new s r m old was (safe [] tt old was))
   safe_new (d ∷ es) s r m safe run e on =
-    let old = moved_back A R k d in
-    let was : Enabled A s old = on_old s r m old (subst (Enabled R r) (sym (moved_new A R k d)) run.0) in
-    let fit : Fits A s old = safe [] tt old was in
-    let next : Matches A R k (after A s old) (after R r d) = subst (λ x. Matches A R k (after A s old) (after R r x)) (moved_new A R k d) (step s r m old was) in
-    safe_new es (after A s old) (after R r d) next (λ fs more. safe (old ∷ fs) (was, fit, more)) run.2 e on
+      let old = moved_back A R k d in
+      let was : Enabled A s old = on_old s r m old (subst (Enabled R r) (sym (moved_new A R k d)) run.0) in
+      let fit : Fits A s old = safe [] tt old was in
+      let next : Matches A R k (after A s old) (after R r d) = subst (λ x. Matches A R k (after A s old) (after R r x)) (moved_new A R k d) (step s r m old was) in
+      safe_new es (after A s old) (after R r d) next (λ fs more. safe (old ∷ fs) (was, fit, more)) run.2 e on
 
   run_new : (es : List Event) (s r : State) → Matches A R k s r → Run A s es → Run R r (moved_all A R k es)
   run_new [] s r m run = tt
-  run_new (e ∷ es) s r m run = (on_new s r m e run.0, fits_new s r m e run.0 run.1,
-    run_new es (after A s e) (after R r (moved A R k e)) (step s r m e run.0) run.2)
+  run_new (e ∷ es) s r m run = (
+    on_new s r m e run.0,
+    fits_new s r m e run.0 run.1,
+    run_new es (after A s e) (after R r (moved A R k e)) (step s r m e run.0) run.2,
+  )
 
   trace_new : (es : List Event) (s r : State) → Matches A R k s r → Run A s es → (n : ℕ)
-    → (after_all R r (moved_all A R k es)).trace (k.node n) ≡ (after_all A s es).trace n
+      → (after_all R r (moved_all A R k es)).trace (k.node n) ≡ (after_all A s es).trace n
   trace_new [] s r m run n = m.traces n
   trace_new (e ∷ es) s r m run n = trace_new es (after A s e) (after R r (moved A R k e)) (step s r m e run.0) run.2 n
 
@@ -124,7 +129,9 @@ module _ (A R : Fabric) (k : Renumbers A R) where
 
   pub renumbered_exact : Exact A → Exact R
   renumbered_exact exact t may =
-    let old : A.may 0 t = (k.may 0 t).0 (subst (λ n. R.may n t) (sym k.outside) may) in
-    let (es, run, e) = exact t old in
-    (moved_all A R k es, run_new es start start matches_start run,
-      ap (λ n. (after_all R start (moved_all A R k es)).trace n) (sym k.outside) ∙ trace_new es start start matches_start run 0 ∙ e)
+      let old : A.may 0 t = (k.may 0 t).0 (subst (λ n. R.may n t) (sym k.outside) may) in
+      let (es, run, e) = exact t old in (
+        moved_all A R k es,
+        run_new es start start matches_start run,
+        ap (λ n. (after_all R start (moved_all A R k es)).trace n) (sym k.outside) ∙ trace_new es start start matches_start run 0 ∙ e,
+      )

@@ -59,5 +59,5 @@ mirror k = record {
   nodes = λ m p f. turned (k.nodes m p f);
   fused = λ w v u g h. turned (k.fused w u v h g);
   same = λ t. ((k.same t).1, (k.same t).0);
-  opposite = λ p f g. k.opposite p g f
+  opposite = λ p f g. k.opposite p g f;
 }
