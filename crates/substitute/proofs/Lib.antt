@@ -1,4 +1,6 @@
-pub mod Joins
 pub mod Follows
-pub mod JoinedSound
 pub mod JoinedExact
+pub mod JoinedSound
+pub mod Joins
+pub mod Located
+pub mod Search
