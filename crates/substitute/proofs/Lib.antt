@@ -3,4 +3,5 @@ pub mod JoinedExact
 pub mod JoinedSound
 pub mod Joins
 pub mod Located
+pub mod Places
 pub mod Search

@@ -71,7 +71,7 @@ side_within : (b : Bool) (outs : List Bool) (p : ℕ) (o : Option Bool) → slic
 side_within b outs p None e h = absurd (false≢true h)
 side_within b outs p (Some x) e h = slice_get_within outs p x e
 
-port_within : (b : Bool) (xs : List Node) (n p : ℕ) (o : Option Node) → slice_get xs n ≡ o → is_side b (slice_get (outs_at o) p) ≡ true
+pub port_within : (b : Bool) (xs : List Node) (n p : ℕ) (o : Option Node) → slice_get xs n ≡ o → is_side b (slice_get (outs_at o) p) ≡ true
   → (x : Node) × (slice_get xs n ≡ Some x) × (p < length (outs_of x.spec))
 port_within b xs n p None e h = absurd (false≢true h)
 port_within b xs n p (Some x) e h = (x, e, side_within b (outs_of x.spec) p (slice_get (outs_of x.spec) p) refl h)

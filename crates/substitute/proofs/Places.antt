@@ -1,0 +1,94 @@
+-- Where the nodes of a network and of its part stand in the spliced network.
+use Rattle.std.proofs.Common.{◌≡◌, ◌≢◌, ◌⊎◌, inl, inr, ℕ, zero, suc, ◌+◌, ◌-◌, ◌*◌, ◌<◌, ◌≤◌, Bool, true, false, not, List, [], ◌∷◌, ◌++◌, length, map, take, drop, get_or, Option, None, Some, refl, sym, ap, ◌∙◌, subst, arith, ◌==◌, if◌then◌else◌, ltb, lt-ltb, le-ltb, ne_eqb, eq-eqb, length-drop, length-append}
+use Rattle.std.specs.Prelude.{slice_get, option_map}
+use Rattle.std.proofs.lemmas.Bool.{cases_lt, cases_eq, false≢true}
+use Rattle.std.proofs.lemmas.Option.{slice_get-map, slice_get_past, slice_get_within, get_or_from_slice_get}
+use Rattle.std.proofs.lemmas.List.{get_or-map}
+use Rattle.std.proofs.lemmas.List.Elements.{All-get_or}
+use Rattle.substitute.specs.Stub.{Node, Circuit, Wired, Well, outs_of}
+use Rattle.substitute.specs.Ends.{outs_at, ends_at, may_at, end_at, is_side, gives, takes}
+use Rattle.substitute.specs.Splice.{moved, renumber, spliced, Fitting}
+use Rattle.substitute.proofs.Located.{port_within}
+
+get_before : {X : Type 0} (xs ys : List X) (n : ℕ) → n < length xs → slice_get (xs ++ ys) n ≡ slice_get xs n
+get_before [] ys n h = absurd (omega arith)
+get_before (x ∷ xs) ys zero h = refl
+get_before (x ∷ xs) ys (suc n) h = get_before xs ys n (omega arith)
+
+get_after : {X : Type 0} (xs ys : List X) (n k : ℕ) → n ≡ length xs + k → slice_get (xs ++ ys) n ≡ slice_get ys k
+get_after [] ys n k e = ap (slice_get ys) (let f : n ≡ k = omega arith in f)
+get_after (x ∷ xs) ys zero k e = absurd (omega arith)
+get_after (x ∷ xs) ys (suc n) k e = get_after xs ys n k (omega arith)
+
+get_take : {X : Type 0} (k : ℕ) (xs : List X) (n : ℕ) → n < k → slice_get (take k xs) n ≡ slice_get xs n
+get_take zero xs n h = absurd (omega arith)
+get_take (suc k) [] n h = refl
+get_take (suc k) (x ∷ xs) zero h = refl
+get_take (suc k) (x ∷ xs) (suc n) h = get_take k xs n (omega arith)
+
+get_drop : {X : Type 0} (k : ℕ) (xs : List X) (i n : ℕ) → n ≡ k + i → slice_get (drop k xs) i ≡ slice_get xs n
+get_drop zero xs i n e = ap (slice_get xs) (let f : i ≡ n = omega arith in f)
+get_drop (suc k) [] i n e = refl
+get_drop (suc k) (x ∷ xs) i zero e = absurd (omega arith)
+get_drop (suc k) (x ∷ xs) i (suc n) e = get_drop k xs i n (omega arith)
+
+length_take : {X : Type 0} (k : ℕ) (xs : List X) → k ≤ length xs → length (take k xs) ≡ k
+length_take zero xs h = refl
+length_take (suc k) [] h = absurd (omega arith)
+length_take (suc k) (x ∷ xs) h = ap suc (length_take k xs (omega arith))
+
+length_map : {X Y : Type 0} (f : X → Y) (xs : List X) → length (map f xs) ≡ length xs
+length_map f [] = refl
+length_map f (x ∷ xs) = ap suc (length_map f xs)
+
+-- The number of c's node n in the result. Numbers past the end go past its end, apart from those of the part.
+pub net_place : Circuit → ℕ → Circuit → ℕ → ℕ
+net_place c a m n = if ltb n a then n
+  else if ltb n (length c.nodes) then (n + length m.nodes) - 2
+  else ((length m.nodes + 2 * n) - length c.nodes) - 2
+
+-- the number of m's node n in the result
+pub part_place : Circuit → ℕ → Circuit → ℕ → ℕ
+part_place c a m n = if ltb n (length m.nodes) then (a + n) - 1
+  else ((length c.nodes + 2 * n) - length m.nodes) - 1
+
+module _ (c : Circuit) (a : ℕ) (m : Circuit) (fit : Fitting c a m) where
+  pub net_cases : (n : ℕ) → ((n < a) × (net_place c a m n ≡ n))
+    ⊎ (((a ≤ n) × (n < length c.nodes) × (net_place c a m n + 2 ≡ n + length m.nodes))
+    ⊎ ((length c.nodes ≤ n) × (net_place c a m n + 2 + length c.nodes ≡ length m.nodes + 2 * n)))
+  unfolding net_place
+  net_cases n = elim (cases_lt n a) [
+      inl l ↦ inl (l, rw (lt-ltb n a l) refl)
+    | inr g ↦ elim (cases_lt n (length c.nodes)) [
+        inl l ↦ inr (inl (g, l, rw (le-ltb n a g, lt-ltb n (length c.nodes) l) (let some = fit.well_part.some in let comp = fit.component in omega arith)))
+      | inr h ↦ inr (inr (h, rw (le-ltb n a g, le-ltb n (length c.nodes) h) (let some = fit.well_part.some in let comp = fit.component in let ins = fit.inside in omega arith))) ] ]
+
+  pub part_cases : (n : ℕ) → ((n < length m.nodes) × (part_place c a m n + 1 ≡ a + n))
+    ⊎ ((length m.nodes ≤ n) × (part_place c a m n + 1 + length m.nodes ≡ length c.nodes + 2 * n))
+  unfolding part_place
+  part_cases n = elim (cases_lt n (length m.nodes)) [
+      inl l ↦ inl (l, rw (lt-ltb n (length m.nodes) l) (let comp = fit.component in omega arith))
+    | inr g ↦ inr (g, rw (le-ltb n (length m.nodes) g) (let ins = fit.inside in omega arith)) ]
+
+  pub net_alone : (n k : ℕ) → n ≢ a → k ≢ a → net_place c a m n ≡ net_place c a m k → n ≡ k
+  net_alone n k g h e = let x = net_cases n in let y = net_cases k in let some = fit.well_part.some in let ins = fit.inside in omega arith
+
+  pub part_alone : (n k : ℕ) → ◌≢◌ {A = ℕ} n 0 → ◌≢◌ {A = ℕ} k 0 → part_place c a m n ≡ part_place c a m k → n ≡ k
+  part_alone n k g h e = let x = part_cases n in let y = part_cases k in let some = fit.well_part.some in let ins = fit.inside in omega arith
+
+  pub places_apart : (n k : ℕ) → n ≢ a → ◌≢◌ {A = ℕ} k 0 → net_place c a m n ≢ part_place c a m k
+  places_apart n k g h e = let x = net_cases n in let y = part_cases k in let some = fit.well_part.some in let ins = fit.inside in omega arith
+
+  pub net_zero : net_place c a m 0 ≡ 0
+  net_zero = let x = net_cases 0 in let comp = fit.component in omega arith
+
+  part_above : (n : ℕ) → ◌≢◌ {A = ℕ} n 0 → ◌≢◌ {A = ℕ} (part_place c a m n) 0
+  part_above n h e = let x = part_cases n in let comp = fit.component in let ins = fit.inside in omega arith
+
+  pub decode : (n : ℕ) → n + 2 < length c.nodes + length m.nodes
+    → ((k : ℕ) × (k ≢ a) × (n ≡ net_place c a m k)) ⊎ ((k : ℕ) × (k ≢ 0) × (n ≡ part_place c a m k))
+  decode n l = elim (cases_lt n a) [
+      inl h ↦ inl (n, (λ e. omega arith), (let x = net_cases n in omega arith))
+    | inr h ↦ elim (cases_lt (suc n) (a + length m.nodes)) [
+        inl g ↦ inr (suc (n - a), (λ e. omega arith), (let x = part_cases (suc (n - a)) in omega arith))
+      | inr g ↦ inl ((n + 2) - length m.nodes, (λ e. omega arith), (let x = net_cases ((n + 2) - length m.nodes) in omega arith)) ] ]
