@@ -83,13 +83,17 @@ unfolding ports
 side_real b c n p h = let (x, e, l) = port_within b c.nodes n p (slice_get c.nodes n) refl h in
   (slice_get_within c.nodes n x e, rw e l)
 
+-- a node that is there has one known wire per port
+pub wired_at : (c : Circuit) → Well c → (n : ℕ) (x : Node) → slice_get c.nodes n ≡ Some x → Wired c.wires x
+wired_at c well n x e = subst (Wired c.wires) (get_or_from_slice_get c.nodes n x x e)
+  (All-get_or (Wired c.wires) c.nodes n x (slice_get_within c.nodes n x e) well.fit)
+
 pub side_known : (b : Bool) (c : Circuit) → Well c → (n p : ℕ) → is_side b (slice_get (outs_at (slice_get c.nodes n)) p) ≡ true
   → end_at c n p < c.wires
 unfolding end_at
 side_known b c well n p h =
   let (x, e, l) = port_within b c.nodes n p (slice_get c.nodes n) refl h in
-  let wired : Wired c.wires (get_or c.nodes n x) = All-get_or (Wired c.wires) c.nodes n x (slice_get_within c.nodes n x e) well.fit in
-  let fit : Wired c.wires x = subst (Wired c.wires) (get_or_from_slice_get c.nodes n x x e) wired in
+  let fit = wired_at c well n x e in
   let sized = fit.sized in
   rw e (All-get_or (λ w. w < c.wires) x.ends p 0 (omega arith) fit.known)
 
