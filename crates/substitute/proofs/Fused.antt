@@ -1,10 +1,10 @@
 -- The wires of a network and of its part in the spliced network.
-use Rattle.std.proofs.Common.{◌≡◌, ◌≢◌, ◌⊎◌, inl, inr, ℕ, zero, suc, ◌+◌, ◌<◌, ◌≤◌, Bool, true, false, not, ◌&&◌, List, [], ◌∷◌, length, Option, None, Some, refl, sym, ap, ◌∙◌, subst, arith, ◌==◌, if◌then◌else◌, ltb, lt-ltb, le-ltb, ne_eqb, eq-eqb}
+use Rattle.std.proofs.Common.{◌≡◌, ◌≢◌, ◌⊎◌, ◌↔◌, inl, inr, ℕ, zero, suc, ◌+◌, ◌<◌, ◌≤◌, Bool, true, false, not, ◌&&◌, List, [], ◌∷◌, length, Option, None, Some, refl, sym, ap, ◌∙◌, subst, arith, ◌==◌, if◌then◌else◌, ltb, lt-ltb, le-ltb, ne_eqb, eq-eqb}
 use Rattle.std.specs.Prelude.{slice_get}
 use Rattle.std.proofs.lemmas.Bool.{cases_lt, cases_eq, cases_Bool, false≢true, eqb-true}
 use Rattle.std.proofs.lemmas.Option.{same_Some, none-some}
 use Rattle.substitute.specs.Stub.{Node, Circuit}
-use Rattle.substitute.specs.Ends.{outs_at, end_at, is_side, gives, takes, driver, receiver, output, input, pick, any}
+use Rattle.substitute.specs.Ends.{outs_at, may_at, end_at, is_side, gives, takes, driver, receiver, output, input, pick, any}
 use Rattle.substitute.specs.Splice.{is_inner, rank, renumber, spliced, Fitting}
 use Rattle.substitute.proofs.Search.{pick_found, any_from, any_gives, rank_same}
 use Rattle.substitute.proofs.Located.{Located, gives_located, takes_located}
@@ -73,6 +73,11 @@ pub record Inner (c : Circuit) (a : ℕ) (m : Circuit) (u : ℕ) : Type 0 where
   pub goes : ◌≢◌ {A = ℕ} (receiver m u) 0
   pub number : renumber c a m u ≡ c.wires + rank (is_inner m) u
   pub inner : is_inner m u ≡ true
+
+both_sides : (o : Option Bool) → is_side true o ≡ true → is_side false o ≡ true → ⊥
+both_sides None g h = false≢true g
+both_sides (Some true) g h = false≢true h
+both_sides (Some false) g h = false≢true g
 
 some_at : {X : Type 0} (xs : List X) (n : ℕ) → n < length xs → (x : X) × (slice_get xs n ≡ Some x)
 some_at [] n h = absurd (omega arith)
@@ -198,3 +203,18 @@ module _ (c : Circuit) (a : ℕ) (m : Circuit) (fit : Fitting c a m) where
     let some = there_some c a m w (any_from (λ x. renumber c a m x == w) m.wires u l (eq-eqb (renumber c a m u) w e)) in
     let (below, at) = there_gives c a m w (pick (λ x. renumber c a m x == w) m.wires) some in
     some ∙ ap Some (one_wire (pick (λ x. renumber c a m x == w) m.wires) u below l (at ∙ sym e))
+
+  -- a and the environment of m have the same traces, and opposite ends
+  pub same_traces : (t : List ℕ) → may_at (slice_get c.nodes a) t ↔ may_at (slice_get m.nodes 0) t
+  same_traces t =
+    let (x, e) = some_at c.nodes a fit.inside in
+    let (y, f) = some_at m.nodes 0 fit.well_part.some in
+    let same : may_at (slice_get c.nodes a) t ≡ may_at (slice_get m.nodes 0) t =
+      ap (λ o. may_at o t) e ∙ ap (λ s. may_at (Some (record { spec = s; ends = x.ends })) t) (fit.same x y e f) ∙ sym (ap (λ o. may_at o t) f) in
+    subst (λ X. may_at (slice_get c.nodes a) t ↔ X) same ((λ h. h), (λ h. h))
+
+  pub opposite_ends : (p : ℕ) → gives c a p ≡ true → gives m 0 p ≡ true → ⊥
+  unfolding gives
+  opposite_ends p g h = let comp = fit.component in
+    both_sides (slice_get (outs_at (slice_get m.nodes 0)) p)
+      (subst (λ xs. is_side true (slice_get xs p) ≡ true) same_outs (rw (ne_eqb a 0 (λ e. omega arith)) at g)) h

@@ -6,3 +6,4 @@ pub mod Joins
 pub mod Located
 pub mod Places
 pub mod Search
+pub mod Spliced
