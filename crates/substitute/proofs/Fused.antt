@@ -79,7 +79,7 @@ both_sides None g h = false≢true g
 both_sides (Some true) g h = false≢true h
 both_sides (Some false) g h = false≢true g
 
-some_at : {X : Type 0} (xs : List X) (n : ℕ) → n < length xs → (x : X) × (slice_get xs n ≡ Some x)
+pub some_at : {X : Type 0} (xs : List X) (n : ℕ) → n < length xs → (x : X) × (slice_get xs n ≡ Some x)
 some_at [] n h = absurd (omega arith)
 some_at (x ∷ xs) zero h = (x, refl)
 some_at (x ∷ xs) (suc n) h = some_at xs n (omega arith)
@@ -93,12 +93,12 @@ number_second : (c : Circuit) (a : ℕ) (m : Circuit) (u : ℕ) → ◌≢◌ {A
 unfolding renumber
 number_second c a m u h e = rw (ne_eqb (driver m u) 0 h, eq-eqb (receiver m u) 0 e) refl
 
-number_third : (c : Circuit) (a : ℕ) (m : Circuit) (u : ℕ) → ◌≢◌ {A = ℕ} (driver m u) 0 → ◌≢◌ {A = ℕ} (receiver m u) 0
+pub number_third : (c : Circuit) (a : ℕ) (m : Circuit) (u : ℕ) → ◌≢◌ {A = ℕ} (driver m u) 0 → ◌≢◌ {A = ℕ} (receiver m u) 0
   → renumber c a m u ≡ c.wires + rank (is_inner m) u
 unfolding renumber
 number_third c a m u h g = rw (ne_eqb (driver m u) 0 h, ne_eqb (receiver m u) 0 g) refl
 
-inner_from : (m : Circuit) (u : ℕ) → ◌≢◌ {A = ℕ} (driver m u) 0 → ◌≢◌ {A = ℕ} (receiver m u) 0 → is_inner m u ≡ true
+pub inner_from : (m : Circuit) (u : ℕ) → ◌≢◌ {A = ℕ} (driver m u) 0 → ◌≢◌ {A = ℕ} (receiver m u) 0 → is_inner m u ≡ true
 unfolding is_inner
 inner_from m u h g = rw (ne_eqb (driver m u) 0 h, ne_eqb (receiver m u) 0 g) refl
 

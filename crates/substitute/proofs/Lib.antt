@@ -7,3 +7,4 @@ pub mod Located
 pub mod Places
 pub mod Search
 pub mod Spliced
+pub mod SplicedNet

@@ -37,7 +37,7 @@ length_take zero xs h = refl
 length_take (suc k) [] h = absurd (omega arith)
 length_take (suc k) (x ∷ xs) h = ap suc (length_take k xs (omega arith))
 
-length_map : {X Y : Type 0} (f : X → Y) (xs : List X) → length (map f xs) ≡ length xs
+pub length_map : {X Y : Type 0} (f : X → Y) (xs : List X) → length (map f xs) ≡ length xs
 length_map f [] = refl
 length_map f (x ∷ xs) = ap suc (length_map f xs)
 
@@ -60,7 +60,7 @@ may_moved : (f : ℕ → ℕ) (o : Option Node) (t : List ℕ) → may_at (optio
 may_moved f None t = refl
 may_moved f (Some x) t = refl
 
-end_moved : (f : ℕ → ℕ) (xs : List ℕ) (p : ℕ) → p < length xs → get_or (map f xs) p 0 ≡ f (get_or xs p 0)
+pub end_moved : (f : ℕ → ℕ) (xs : List ℕ) (p : ℕ) → p < length xs → get_or (map f xs) p 0 ≡ f (get_or xs p 0)
 end_moved f xs p h = get_or-map f xs p 0 0 h
 
 -- m's components in the result

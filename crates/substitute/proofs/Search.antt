@@ -1,6 +1,6 @@
 -- The least number that passes a test, whether there is one, and how many come before it.
 use Rattle.std.proofs.Common.{◌≡◌, ◌≢◌, ◌⊎◌, inl, inr, ℕ, zero, suc, ◌+◌, ◌-◌, ◌<◌, ◌≤◌, Bool, true, false, ◌||◌, refl, sym, ap, ◌∙◌, subst, arith, if◌then◌else◌}
-use Rattle.std.proofs.lemmas.Bool.{cases_Bool, cases_order, false≢true, or_cases}
+use Rattle.std.proofs.lemmas.Bool.{cases_Bool, cases_eq, cases_order, false≢true, or_cases}
 use Rattle.substitute.specs.Ends.{pick, any}
 use Rattle.substitute.specs.Splice.{rank}
 
@@ -67,3 +67,22 @@ rank_same f n m e g same = elim (cases_order n m) [
     inl h ↦ h
   | inr (inl h) ↦ (let lt = rank_below f n m h e in absurd (omega arith))
   | inr (inr h) ↦ (let lt = rank_below f m n h g in absurd (omega arith)) ]
+
+rank_stays : (f : ℕ → Bool) (n : ℕ) → f n ≡ false → rank f (suc n) ≡ rank f n
+unfolding rank
+rank_stays f n e = rw e refl
+
+rank_zero : (f : ℕ → Bool) → rank f zero ≡ 0
+unfolding rank
+rank_zero f = refl
+
+-- each number below the rank of n is the rank of one below n that passes
+pub rank_onto : (f : ℕ → Bool) (n k : ℕ) → k < rank f n → (u : ℕ) × (u < n) × (f u ≡ true) × (rank f u ≡ k)
+rank_onto f zero k h = let z = rank_zero f in absurd (omega arith)
+rank_onto f (suc n) k h = go (cases_Bool (f n)) (cases_eq k (rank f n)) (λ l. rank_onto f n k l)
+  where
+    go : (f n ≡ true) ⊎ (f n ≡ false) → (k ≡ rank f n) ⊎ (k ≡ rank f n → ⊥)
+      → (k < rank f n → (u : ℕ) × (u < n) × (f u ≡ true) × (rank f u ≡ k)) → (u : ℕ) × (u < suc n) × (f u ≡ true) × (rank f u ≡ k)
+    go (inl e) (inl at) more = (n, omega arith, e, sym at)
+    go (inl e) (inr ne) more = let step = rank_next f n e in let (u, l, g, r) = more (omega arith) in (u, omega arith, g, r)
+    go (inr e) at more = let step = rank_stays f n e in let (u, l, g, r) = more (omega arith) in (u, omega arith, g, r)

@@ -232,3 +232,7 @@ module _ (c : Circuit) (a : ℕ) (m : Circuit) (fit : Fitting c a m) where
     same = λ t. same_traces c a m fit t;
     opposite = λ p g h. opposite_ends c a m fit p g h
   }
+
+  pub joins_outside : spliced_joins.i 0 ≡ 0
+  unfolding spliced_joins
+  joins_outside = net_zero c a m fit

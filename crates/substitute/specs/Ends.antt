@@ -78,3 +78,7 @@ Once f c w = (n : ℕ) × (p : ℕ) × (f n p ≡ true) × (end_at c n p ≡ w)
 -- Each wire has one driver and one receiver.
 abbrev pub ClosedByEnds : Circuit → Type 0
 ClosedByEnds c = (w : ℕ) → w < c.wires → Once (gives c) c w × Once (takes c) c w
+
+-- No wire has its driver and its receiver at one node.
+abbrev pub IsClean : Circuit → Type 0
+IsClean c = (w : ℕ) → w < c.wires → driver c w ≡ receiver c w → ⊥
