@@ -1,11 +1,11 @@
 -- The wires of a network and of its part in the spliced network.
-use Rattle.std.proofs.Common.{◌≡◌, ◌≢◌, ◌⊎◌, ◌↔◌, inl, inr, ℕ, zero, suc, ◌+◌, ◌<◌, ◌≤◌, Bool, true, false, not, ◌&&◌, List, [], ◌∷◌, length, Option, None, Some, refl, sym, ap, ◌∙◌, subst, arith, ◌==◌, if◌then◌else◌, ltb, lt-ltb, le-ltb, ne_eqb, eq-eqb}
+use Rattle.std.proofs.Common.{◌≡◌, ◌≢◌, ◌⊎◌, ◌↔◌, inl, inr, ℕ, zero, suc, ◌+◌, ◌<◌, ◌≤◌, Bool, true, false, List, [], ◌∷◌, length, Option, None, Some, refl, sym, ap, ◌∙◌, subst, arith, ◌==◌, if◌then◌else◌, ltb, lt-ltb, le-ltb, ne_eqb, eq-eqb}
 use Rattle.std.specs.Prelude.{slice_get}
 use Rattle.std.proofs.lemmas.Bool.{cases_lt, cases_eq, cases_Bool, false≢true, eqb-true}
 use Rattle.std.proofs.lemmas.Option.{same_Some, none-some}
-use Rattle.substitute.specs.Stub.{Node, Circuit}
+use Rattle.substitute.specs.Stub.{Circuit}
 use Rattle.substitute.specs.Ends.{outs_at, may_at, end_at, is_side, gives, takes, driver, receiver, output, input, pick, any}
-use Rattle.substitute.specs.Splice.{is_inner, rank, renumber, spliced, Fitting}
+use Rattle.substitute.specs.Splice.{is_inner, rank, renumber, Fitting}
 use Rattle.substitute.proofs.Search.{pick_found, any_from, any_gives, rank_same}
 use Rattle.substitute.proofs.Located.{Located, gives_located, takes_located}
 
@@ -27,31 +27,35 @@ here_past c w g = rw (le-ltb w c.wires g) refl
 
 pub here_gives : (c : Circuit) (w v : ℕ) → here c w ≡ Some v → (w ≡ v) × (v < c.wires)
 here_gives c w v e = elim (cases_lt w c.wires) [
-    inl l ↦ (let same : w ≡ v = same_Some w v (sym (here_from c w l) ∙ e) in (same, subst (λ x. x < c.wires) same l))
-  | inr g ↦ absurd (none-some v (sym (here_past c w g) ∙ e)) ]
+  | inl l ↦ (let same : w ≡ v = same_Some w v (sym (here_from c w l) ∙ e) in (same, subst (λ x. x < c.wires) same l))
+  | inr g ↦ absurd (none-some v (sym (here_past c w g) ∙ e))
+]
 
 there_none : (c : Circuit) (a : ℕ) (m : Circuit) (w : ℕ) → any (λ u. renumber c a m u == w) m.wires ≡ false → there c a m w ≡ None
 unfolding there
 there_none c a m w e = rw e refl
 
 there_some : (c : Circuit) (a : ℕ) (m : Circuit) (w : ℕ) → any (λ u. renumber c a m u == w) m.wires ≡ true
-  → there c a m w ≡ Some (pick (λ u. renumber c a m u == w) m.wires)
+    → there c a m w ≡ Some (pick (λ u. renumber c a m u == w) m.wires)
 unfolding there
 there_some c a m w e = rw e refl
 
 pub there_gives : (c : Circuit) (a : ℕ) (m : Circuit) (w u : ℕ) → there c a m w ≡ Some u → (u < m.wires) × (renumber c a m u ≡ w)
 there_gives c a m w u e = elim (cases_Bool (any (λ x. renumber c a m x == w) m.wires)) [
-    inl h ↦ (let (x, l, g) = any_gives (λ x. renumber c a m x == w) m.wires h in
+  | inl h ↦ (let (x, l, g) = any_gives (λ x. renumber c a m x == w) m.wires h in
       let (at, below) = pick_found (λ x. renumber c a m x == w) m.wires x l g in
-      let same : pick (λ x. renumber c a m x == w) m.wires ≡ u = same_Some _ u (sym (there_some c a m w h) ∙ e) in
-      (subst (λ x. x < m.wires) same below,
-        ap (renumber c a m) (sym same) ∙ eqb-true (renumber c a m (pick (λ x. renumber c a m x == w) m.wires)) w at))
-  | inr h ↦ absurd (none-some u (sym (there_none c a m w h) ∙ e)) ]
+      let same : pick (λ x. renumber c a m x == w) m.wires ≡ u = same_Some _ u (sym (there_some c a m w h) ∙ e) in (
+        subst (λ x. x < m.wires) same below,
+        ap (renumber c a m) (sym same) ∙ eqb-true (renumber c a m (pick (λ x. renumber c a m x == w) m.wires)) w at,
+      ))
+  | inr h ↦ absurd (none-some u (sym (there_none c a m w h) ∙ e))
+]
 
 pub there_not : (c : Circuit) (a : ℕ) (m : Circuit) (w : ℕ) → ((u : ℕ) → u < m.wires → renumber c a m u ≡ w → ⊥) → there c a m w ≡ None
 there_not c a m w h = elim (cases_Bool (any (λ x. renumber c a m x == w) m.wires)) [
-    inl e ↦ (let (x, l, g) = any_gives (λ x. renumber c a m x == w) m.wires e in absurd (h x l (eqb-true (renumber c a m x) w g)))
-  | inr e ↦ there_none c a m w e ]
+  | inl e ↦ (let (x, l, g) = any_gives (λ x. renumber c a m x == w) m.wires e in absurd (h x l (eqb-true (renumber c a m x) w g)))
+  | inr e ↦ there_none c a m w e
+]
 
 -- m's wire u comes from its environment.
 pub record Entering (c : Circuit) (a : ℕ) (m : Circuit) (u : ℕ) : Type 0 where
@@ -89,12 +93,12 @@ unfolding renumber
 number_first c a m u e = rw (eq-eqb (driver m u) 0 e) refl
 
 number_second : (c : Circuit) (a : ℕ) (m : Circuit) (u : ℕ) → ◌≢◌ {A = ℕ} (driver m u) 0 → receiver m u ≡ 0
-  → renumber c a m u ≡ end_at c a (input m u)
+    → renumber c a m u ≡ end_at c a (input m u)
 unfolding renumber
 number_second c a m u h e = rw (ne_eqb (driver m u) 0 h, eq-eqb (receiver m u) 0 e) refl
 
 pub number_third : (c : Circuit) (a : ℕ) (m : Circuit) (u : ℕ) → ◌≢◌ {A = ℕ} (driver m u) 0 → ◌≢◌ {A = ℕ} (receiver m u) 0
-  → renumber c a m u ≡ c.wires + rank (is_inner m) u
+    → renumber c a m u ≡ c.wires + rank (is_inner m) u
 unfolding renumber
 number_third c a m u h g = rw (ne_eqb (driver m u) 0 h, ne_eqb (receiver m u) 0 g) refl
 
@@ -117,9 +121,9 @@ module _ (c : Circuit) (a : ℕ) (m : Circuit) (fit : Fitting c a m) where
 
   same_outs : outs_at (slice_get c.nodes a) ≡ outs_at (slice_get m.nodes 0)
   same_outs =
-    let (x, e) = some_at c.nodes a fit.inside in
-    let (y, f) = some_at m.nodes 0 fit.well_part.some in
-    ap outs_at e ∙ ap (λ s. outs_at (Some (record { spec = s; ends = x.ends }))) (fit.same x y e f) ∙ sym (ap outs_at f)
+      let (x, e) = some_at c.nodes a fit.inside in
+      let (y, f) = some_at m.nodes 0 fit.well_part.some in
+      ap outs_at e ∙ ap (λ s. outs_at (Some (record { spec = s; ends = x.ends }))) (fit.same x y e f) ∙ sym (ap outs_at f)
 
   -- What a takes the environment of m gives, and what a gives it takes.
   pub taken_there : (p : ℕ) → takes c a p ≡ gives m 0 p
@@ -135,7 +139,7 @@ module _ (c : Circuit) (a : ℕ) (m : Circuit) (fit : Fitting c a m) where
     from = e;
     number = number_first c a m u e;
     taken = taken_there (output m u) ∙ ap (λ n. gives m n (output m u)) (sym e) ∙ part_gives_at.real u l;
-    back = ap (λ n. end_at m n (output m u)) (sym e) ∙ part_gives_at.back u l
+    back = ap (λ n. end_at m n (output m u)) (sym e) ∙ part_gives_at.back u l;
   }
 
   leaving : (u : ℕ) → u < m.wires → ◌≢◌ {A = ℕ} (driver m u) 0 → receiver m u ≡ 0 → Leaving c a m u
@@ -143,16 +147,18 @@ module _ (c : Circuit) (a : ℕ) (m : Circuit) (fit : Fitting c a m) where
     goes = e;
     number = number_second c a m u h e;
     given = given_there (input m u) ∙ ap (λ n. takes m n (input m u)) (sym e) ∙ part_takes_at.real u l;
-    back = ap (λ n. end_at m n (input m u)) (sym e) ∙ part_takes_at.back u l
+    back = ap (λ n. end_at m n (input m u)) (sym e) ∙ part_takes_at.back u l;
   }
 
   -- the three kinds of a wire of m
   pub kind : (u : ℕ) → u < m.wires → Entering c a m u ⊎ (Leaving c a m u ⊎ Inner c a m u)
   kind u l = elim (cases_eq (driver m u) 0) [
-      inl e ↦ inl (entering u l e)
+    | inl e ↦ inl (entering u l e)
     | inr h ↦ elim (cases_eq (receiver m u) 0) [
-        inl e ↦ inr (inl (leaving u l h e))
-      | inr g ↦ inr (inr (record { from = h; goes = g; number = number_third c a m u h g; inner = inner_from m u h g })) ] ]
+      | inl e ↦ inr (inl (leaving u l h e))
+      | inr g ↦ inr (inr (record { from = h; goes = g; number = number_third c a m u h g; inner = inner_from m u h g }))
+    ]
+  ]
 
   -- A wire that enters m leads to a in c, and one that leaves m comes from a.
   pub entering_to : (u : ℕ) → Entering c a m u → receiver c (renumber c a m u) ≡ a
@@ -180,19 +186,19 @@ module _ (c : Circuit) (a : ℕ) (m : Circuit) (fit : Fitting c a m) where
   crossed u v k h e = fit.not_self (renumber c a m v) (leaving_known v h) (leaving_from v h) (ap (receiver c) (sym e) ∙ entering_to u k)
 
   same_kind : (u v : ℕ) → Entering c a m u ⊎ (Leaving c a m u ⊎ Inner c a m u) → Entering c a m v ⊎ (Leaving c a m v ⊎ Inner c a m v)
-    → renumber c a m u ≡ renumber c a m v → u ≡ v
+      → renumber c a m u ≡ renumber c a m v → u ≡ v
   same_kind u v (inl k) (inl h) e = sym k.back
-    ∙ ap (end_at m 0) (sym (entering_into u k) ∙ ap (input c) e ∙ entering_into v h) ∙ h.back
+      ∙ ap (end_at m 0) (sym (entering_into u k) ∙ ap (input c) e ∙ entering_into v h) ∙ h.back
   same_kind u v (inl k) (inr (inl h)) e = absurd (crossed u v k h e)
   same_kind u v (inl k) (inr (inr h)) e = let x = entering_known u k in let y = inner_past v h in absurd (omega arith)
   same_kind u v (inr (inl k)) (inl h) e = absurd (crossed v u h k (sym e))
   same_kind u v (inr (inl k)) (inr (inl h)) e = sym k.back
-    ∙ ap (end_at m 0) (sym (leaving_out u k) ∙ ap (output c) e ∙ leaving_out v h) ∙ h.back
+      ∙ ap (end_at m 0) (sym (leaving_out u k) ∙ ap (output c) e ∙ leaving_out v h) ∙ h.back
   same_kind u v (inr (inl k)) (inr (inr h)) e = let x = leaving_known u k in let y = inner_past v h in absurd (omega arith)
   same_kind u v (inr (inr k)) (inl h) e = let x = entering_known v h in let y = inner_past u k in absurd (omega arith)
   same_kind u v (inr (inr k)) (inr (inl h)) e = let x = leaving_known v h in let y = inner_past u k in absurd (omega arith)
   same_kind u v (inr (inr k)) (inr (inr h)) e = rank_same (is_inner m) u v k.inner h.inner
-    (let x = k.number in let y = h.number in omega arith)
+      (let x = k.number in let y = h.number in omega arith)
 
   -- Two wires of m do not become one.
   pub one_wire : (u v : ℕ) → u < m.wires → v < m.wires → renumber c a m u ≡ renumber c a m v → u ≡ v
@@ -200,21 +206,21 @@ module _ (c : Circuit) (a : ℕ) (m : Circuit) (fit : Fitting c a m) where
 
   pub there_from : (w u : ℕ) → u < m.wires → renumber c a m u ≡ w → there c a m w ≡ Some u
   there_from w u l e =
-    let some = there_some c a m w (any_from (λ x. renumber c a m x == w) m.wires u l (eq-eqb (renumber c a m u) w e)) in
-    let (below, at) = there_gives c a m w (pick (λ x. renumber c a m x == w) m.wires) some in
-    some ∙ ap Some (one_wire (pick (λ x. renumber c a m x == w) m.wires) u below l (at ∙ sym e))
+      let some = there_some c a m w (any_from (λ x. renumber c a m x == w) m.wires u l (eq-eqb (renumber c a m u) w e)) in
+      let (below, at) = there_gives c a m w (pick (λ x. renumber c a m x == w) m.wires) some in
+      some ∙ ap Some (one_wire (pick (λ x. renumber c a m x == w) m.wires) u below l (at ∙ sym e))
 
   -- a and the environment of m have the same traces, and opposite ends
   pub same_traces : (t : List ℕ) → may_at (slice_get c.nodes a) t ↔ may_at (slice_get m.nodes 0) t
   same_traces t =
-    let (x, e) = some_at c.nodes a fit.inside in
-    let (y, f) = some_at m.nodes 0 fit.well_part.some in
-    let same : may_at (slice_get c.nodes a) t ≡ may_at (slice_get m.nodes 0) t =
+      let (x, e) = some_at c.nodes a fit.inside in
+      let (y, f) = some_at m.nodes 0 fit.well_part.some in
+      let same : may_at (slice_get c.nodes a) t ≡ may_at (slice_get m.nodes 0) t =
       ap (λ o. may_at o t) e ∙ ap (λ s. may_at (Some (record { spec = s; ends = x.ends })) t) (fit.same x y e f) ∙ sym (ap (λ o. may_at o t) f) in
-    subst (λ X. may_at (slice_get c.nodes a) t ↔ X) same ((λ h. h), (λ h. h))
+      subst (λ X. may_at (slice_get c.nodes a) t ↔ X) same ((λ h. h), (λ h. h))
 
   pub opposite_ends : (p : ℕ) → gives c a p ≡ true → gives m 0 p ≡ true → ⊥
   unfolding gives
   opposite_ends p g h = let comp = fit.component in
-    both_sides (slice_get (outs_at (slice_get m.nodes 0)) p)
+      both_sides (slice_get (outs_at (slice_get m.nodes 0)) p)
       (subst (λ xs. is_side true (slice_get xs p) ≡ true) same_outs (rw (ne_eqb a 0 (λ e. omega arith)) at g)) h

@@ -1,12 +1,11 @@
 -- Where the nodes of a network and of its part stand in the spliced network.
-use Rattle.std.proofs.Common.{◌≡◌, ◌≢◌, ◌⊎◌, ◌↔◌, inl, inr, ℕ, zero, suc, ◌+◌, ◌-◌, ◌*◌, ◌<◌, ◌≤◌, Bool, true, false, not, List, [], ◌∷◌, ◌++◌, length, map, take, drop, get_or, Option, None, Some, refl, sym, ap, ◌∙◌, subst, arith, ◌==◌, if◌then◌else◌, ltb, lt-ltb, le-ltb, ne_eqb, eq-eqb, length-drop, length-append}
+use Rattle.std.proofs.Common.{◌≡◌, ◌≢◌, ◌⊎◌, ◌↔◌, inl, inr, ℕ, zero, suc, ◌+◌, ◌-◌, ◌*◌, ◌<◌, ◌≤◌, Bool, true, List, [], ◌∷◌, ◌++◌, length, map, take, drop, get_or, Option, None, Some, refl, sym, ap, ◌∙◌, subst, arith, ◌==◌, if◌then◌else◌, ltb, lt-ltb, le-ltb, ne_eqb, eq-eqb, length-drop, length-append}
 use Rattle.std.specs.Prelude.{slice_get, option_map}
-use Rattle.std.proofs.lemmas.Bool.{cases_lt, cases_eq, false≢true}
-use Rattle.std.proofs.lemmas.Option.{slice_get-map, slice_get_past, slice_get_within, get_or_from_slice_get}
+use Rattle.std.proofs.lemmas.Bool.{cases_lt, cases_eq}
+use Rattle.std.proofs.lemmas.Option.{slice_get-map, slice_get_past}
 use Rattle.std.proofs.lemmas.List.{get_or-map}
-use Rattle.std.proofs.lemmas.List.Elements.{All-get_or}
-use Rattle.substitute.specs.Stub.{Node, Circuit, Wired, Well, outs_of}
-use Rattle.substitute.specs.Ends.{outs_at, ends_at, may_at, end_at, is_side, gives, takes}
+use Rattle.substitute.specs.Stub.{Node, Circuit}
+use Rattle.substitute.specs.Ends.{outs_at, may_at, end_at, is_side, gives, takes}
 use Rattle.substitute.specs.Splice.{moved, renumber, spliced, Fitting}
 use Rattle.substitute.proofs.Located.{port_within, wired_at}
 
@@ -44,13 +43,13 @@ length_map f (x ∷ xs) = ap suc (length_map f xs)
 -- The number of c's node n in the result. Numbers past the end go past its end, apart from those of the part.
 pub net_place : Circuit → ℕ → Circuit → ℕ → ℕ
 net_place c a m n = if ltb n a then n
-  else if ltb n (length c.nodes) then (n + length m.nodes) - 2
-  else ((length m.nodes + 2 * n) - length c.nodes) - 2
+    else if ltb n (length c.nodes) then (n + length m.nodes) - 2
+    else ((length m.nodes + 2 * n) - length c.nodes) - 2
 
 -- the number of m's node n in the result
 pub part_place : Circuit → ℕ → Circuit → ℕ → ℕ
 part_place c a m n = if ltb n (length m.nodes) then (a + n) - 1
-  else ((length c.nodes + 2 * n) - length m.nodes) - 1
+    else ((length c.nodes + 2 * n) - length m.nodes) - 1
 
 outs_moved : (f : ℕ → ℕ) (o : Option Node) → outs_at (option_map (moved f) o) ≡ outs_at o
 outs_moved f None = refl
@@ -69,21 +68,24 @@ middle c a m = map (moved (renumber c a m)) (drop 1 m.nodes)
 
 module _ (c : Circuit) (a : ℕ) (m : Circuit) (fit : Fitting c a m) where
   pub net_cases : (n : ℕ) → ((n < a) × (net_place c a m n ≡ n))
-    ⊎ (((a ≤ n) × (n < length c.nodes) × (net_place c a m n + 2 ≡ n + length m.nodes))
-    ⊎ ((length c.nodes ≤ n) × (net_place c a m n + 2 + length c.nodes ≡ length m.nodes + 2 * n)))
+      ⊎ (((a ≤ n) × (n < length c.nodes) × (net_place c a m n + 2 ≡ n + length m.nodes))
+      ⊎ ((length c.nodes ≤ n) × (net_place c a m n + 2 + length c.nodes ≡ length m.nodes + 2 * n)))
   unfolding net_place
   net_cases n = elim (cases_lt n a) [
-      inl l ↦ inl (l, rw (lt-ltb n a l) refl)
+    | inl l ↦ inl (l, rw (lt-ltb n a l) refl)
     | inr g ↦ elim (cases_lt n (length c.nodes)) [
-        inl l ↦ inr (inl (g, l, rw (le-ltb n a g, lt-ltb n (length c.nodes) l) (let some = fit.well_part.some in let comp = fit.component in omega arith)))
-      | inr h ↦ inr (inr (h, rw (le-ltb n a g, le-ltb n (length c.nodes) h) (let some = fit.well_part.some in let comp = fit.component in let ins = fit.inside in omega arith))) ] ]
+      | inl l ↦ inr (inl (g, l, rw (le-ltb n a g, lt-ltb n (length c.nodes) l) (let some = fit.well_part.some in let comp = fit.component in omega arith)))
+      | inr h ↦ inr (inr (h, rw (le-ltb n a g, le-ltb n (length c.nodes) h) (let some = fit.well_part.some in let comp = fit.component in let ins = fit.inside in omega arith)))
+    ]
+  ]
 
   pub part_cases : (n : ℕ) → ((n < length m.nodes) × (part_place c a m n + 1 ≡ a + n))
-    ⊎ ((length m.nodes ≤ n) × (part_place c a m n + 1 + length m.nodes ≡ length c.nodes + 2 * n))
+      ⊎ ((length m.nodes ≤ n) × (part_place c a m n + 1 + length m.nodes ≡ length c.nodes + 2 * n))
   unfolding part_place
   part_cases n = elim (cases_lt n (length m.nodes)) [
-      inl l ↦ inl (l, rw (lt-ltb n (length m.nodes) l) (let comp = fit.component in omega arith))
-    | inr g ↦ inr (g, rw (le-ltb n (length m.nodes) g) (let ins = fit.inside in omega arith)) ]
+    | inl l ↦ inl (l, rw (lt-ltb n (length m.nodes) l) (let comp = fit.component in omega arith))
+    | inr g ↦ inr (g, rw (le-ltb n (length m.nodes) g) (let ins = fit.inside in omega arith))
+  ]
 
   pub net_alone : (n k : ℕ) → n ≢ a → k ≢ a → net_place c a m n ≡ net_place c a m k → n ≡ k
   net_alone n k g h e = let x = net_cases n in let y = net_cases k in let some = fit.well_part.some in let ins = fit.inside in omega arith
@@ -101,69 +103,74 @@ module _ (c : Circuit) (a : ℕ) (m : Circuit) (fit : Fitting c a m) where
   part_above n h e = let x = part_cases n in let comp = fit.component in let ins = fit.inside in omega arith
 
   pub decode : (n : ℕ) → n + 2 < length c.nodes + length m.nodes
-    → ((k : ℕ) × (k ≢ a) × (n ≡ net_place c a m k)) ⊎ ((k : ℕ) × (k ≢ 0) × (n ≡ part_place c a m k))
+      → ((k : ℕ) × (k ≢ a) × (n ≡ net_place c a m k)) ⊎ ((k : ℕ) × (k ≢ 0) × (n ≡ part_place c a m k))
   decode n l = elim (cases_lt n a) [
-      inl h ↦ inl (n, (λ e. omega arith), (let x = net_cases n in omega arith))
+    | inl h ↦ inl (n, (λ e. omega arith), (let x = net_cases n in omega arith))
     | inr h ↦ elim (cases_lt (suc n) (a + length m.nodes)) [
-        inl g ↦ inr (suc (n - a), (λ e. omega arith), (let x = part_cases (suc (n - a)) in omega arith))
-      | inr g ↦ inl ((n + 2) - length m.nodes, (λ e. omega arith), (let x = net_cases ((n + 2) - length m.nodes) in omega arith)) ] ]
+      | inl g ↦ inr (suc (n - a), (λ e. omega arith), (let x = part_cases (suc (n - a)) in omega arith))
+      | inr g ↦ inl ((n + 2) - length m.nodes, (λ e. omega arith), (let x = net_cases ((n + 2) - length m.nodes) in omega arith))
+    ]
+  ]
 
   front_length : length (take a c.nodes) ≡ a
   front_length = length_take a c.nodes (let ins = fit.inside in omega arith)
 
   middle_length : length (map (moved (renumber c a m)) (drop 1 m.nodes)) + 1 ≡ length m.nodes
   middle_length = let g = length_map (moved (renumber c a m)) (drop 1 m.nodes) in let d = length-drop 1 m.nodes in
-    let some = fit.well_part.some in omega arith
+      let some = fit.well_part.some in omega arith
 
   pub spliced_length : length (spliced c a m).nodes + 2 ≡ length c.nodes + length m.nodes
   unfolding spliced
   spliced_length = let f = front_length in let g = middle_length in let d = length-drop (suc a) c.nodes in
-    let x = length-append (take a c.nodes) (map (moved (renumber c a m)) (drop 1 m.nodes) ++ drop (suc a) c.nodes) in
-    let y = length-append (map (moved (renumber c a m)) (drop 1 m.nodes)) (drop (suc a) c.nodes) in
-    let ins = fit.inside in omega arith
+      let x = length-append (take a c.nodes) (map (moved (renumber c a m)) (drop 1 m.nodes) ++ drop (suc a) c.nodes) in
+      let y = length-append (map (moved (renumber c a m)) (drop 1 m.nodes)) (drop (suc a) c.nodes) in
+      let ins = fit.inside in omega arith
 
   net_before : (n : ℕ) → n < a → net_place c a m n ≡ n → slice_get (spliced c a m).nodes (net_place c a m n) ≡ slice_get c.nodes n
   unfolding spliced
   net_before n l e = rw e (get_before (take a c.nodes) (middle c a m ++ drop (suc a) c.nodes) n (let f = front_length in omega arith)
-    ∙ get_take a c.nodes n l)
+      ∙ get_take a c.nodes n l)
 
   net_after : (n : ℕ) → n ≢ a → a ≤ n → n < length c.nodes → net_place c a m n + 2 ≡ n + length m.nodes
-    → slice_get (spliced c a m).nodes (net_place c a m n) ≡ slice_get c.nodes n
+      → slice_get (spliced c a m).nodes (net_place c a m n) ≡ slice_get c.nodes n
   unfolding spliced
   net_after n ne g l e =
-    let f = front_length in let q = middle_length in let some = fit.well_part.some in
-    get_after (take a c.nodes) (middle c a m ++ drop (suc a) c.nodes) (net_place c a m n) (net_place c a m n - a) (omega arith)
-    ∙ get_after (middle c a m) (drop (suc a) c.nodes) (net_place c a m n - a) (n - suc a) (omega arith)
-    ∙ get_drop (suc a) c.nodes (n - suc a) n (omega arith)
+      let f = front_length in let q = middle_length in let some = fit.well_part.some in
+      get_after (take a c.nodes) (middle c a m ++ drop (suc a) c.nodes) (net_place c a m n) (net_place c a m n - a) (omega arith)
+      ∙ get_after (middle c a m) (drop (suc a) c.nodes) (net_place c a m n - a) (n - suc a) (omega arith)
+      ∙ get_drop (suc a) c.nodes (n - suc a) n (omega arith)
 
   pub net_node : (n : ℕ) → n ≢ a → slice_get (spliced c a m).nodes (net_place c a m n) ≡ slice_get c.nodes n
   net_node n ne = elim (net_cases n) [
-      inl (l, e) ↦ net_before n l e
+    | inl (l, e) ↦ net_before n l e
     | inr (inl (g, l, e)) ↦ net_after n ne g l e
-    | inr (inr (g, e)) ↦ slice_get_past (spliced c a m).nodes (net_place c a m n) (let s = spliced_length in omega arith) ∙ sym (slice_get_past c.nodes n g) ]
+    | inr (inr (g, e)) ↦ slice_get_past (spliced c a m).nodes (net_place c a m n) (let s = spliced_length in omega arith) ∙ sym (slice_get_past c.nodes n g)
+  ]
 
   part_inside : (n : ℕ) → ◌≢◌ {A = ℕ} n 0 → n < length m.nodes → part_place c a m n + 1 ≡ a + n
-    → slice_get (spliced c a m).nodes (part_place c a m n) ≡ option_map (moved (renumber c a m)) (slice_get m.nodes n)
+      → slice_get (spliced c a m).nodes (part_place c a m n) ≡ option_map (moved (renumber c a m)) (slice_get m.nodes n)
   unfolding spliced
   part_inside n h l e =
-    let f = front_length in let q = middle_length in
-    get_after (take a c.nodes) (middle c a m ++ drop (suc a) c.nodes) (part_place c a m n) (n - 1) (omega arith)
-    ∙ get_before (middle c a m) (drop (suc a) c.nodes) (n - 1) (omega arith)
-    ∙ slice_get-map (moved (renumber c a m)) (drop 1 m.nodes) (n - 1)
-    ∙ ap (option_map (moved (renumber c a m))) (get_drop 1 m.nodes (n - 1) n (omega arith))
+      let f = front_length in let q = middle_length in
+      get_after (take a c.nodes) (middle c a m ++ drop (suc a) c.nodes) (part_place c a m n) (n - 1) (omega arith)
+      ∙ get_before (middle c a m) (drop (suc a) c.nodes) (n - 1) (omega arith)
+      ∙ slice_get-map (moved (renumber c a m)) (drop 1 m.nodes) (n - 1)
+      ∙ ap (option_map (moved (renumber c a m))) (get_drop 1 m.nodes (n - 1) n (omega arith))
 
   pub part_node : (n : ℕ) → ◌≢◌ {A = ℕ} n 0
-    → slice_get (spliced c a m).nodes (part_place c a m n) ≡ option_map (moved (renumber c a m)) (slice_get m.nodes n)
+      → slice_get (spliced c a m).nodes (part_place c a m n) ≡ option_map (moved (renumber c a m)) (slice_get m.nodes n)
   part_node n h = elim (part_cases n) [
-      inl (l, e) ↦ part_inside n h l e
+    | inl (l, e) ↦ part_inside n h l e
     | inr (g, e) ↦ slice_get_past (spliced c a m).nodes (part_place c a m n) (let s = spliced_length in let ins = fit.inside in omega arith)
-        ∙ sym (ap (option_map (moved (renumber c a m))) (slice_get_past m.nodes n g)) ]
+        ∙ sym (ap (option_map (moved (renumber c a m))) (slice_get_past m.nodes n g))
+  ]
 
   net_test : (n : ℕ) → n ≢ a → (net_place c a m n == 0) ≡ (n == 0)
   net_test n ne = elim (cases_eq n 0) [
-      inl e ↦ eq-eqb (net_place c a m n) 0 (ap (net_place c a m) e ∙ net_zero) ∙ sym (eq-eqb n 0 e)
+    | inl e ↦ eq-eqb (net_place c a m n) 0 (ap (net_place c a m) e ∙ net_zero) ∙ sym (eq-eqb n 0 e)
     | inr h ↦ ne_eqb (net_place c a m n) 0 (λ e. let x = net_cases n in let some = fit.well_part.some in let comp = fit.component in let ins = fit.inside in
-        h (omega arith)) ∙ sym (ne_eqb n 0 h) ]
+        h (omega arith)) ∙ sym (ne_eqb n 0 h)
+  ]
 
   part_test : (n : ℕ) → ◌≢◌ {A = ℕ} n 0 → (part_place c a m n == 0) ≡ (n == 0)
   part_test n h = ne_eqb (part_place c a m n) 0 (part_above n h) ∙ sym (ne_eqb n 0 h)
@@ -189,18 +196,18 @@ module _ (c : Circuit) (a : ℕ) (m : Circuit) (fit : Fitting c a m) where
   part_takes n p h = rw (part_node n h, part_test n h, outs_moved (renumber c a m) (slice_get m.nodes n)) refl
 
   pub part_end : (b : Bool) (n p : ℕ) → ◌≢◌ {A = ℕ} n 0 → is_side b (slice_get (outs_at (slice_get m.nodes n)) p) ≡ true
-    → end_at (spliced c a m) (part_place c a m n) p ≡ renumber c a m (end_at m n p)
+      → end_at (spliced c a m) (part_place c a m n) p ≡ renumber c a m (end_at m n p)
   unfolding end_at
   part_end b n p h side =
-    let (x, e, l) = port_within b m.nodes n p (slice_get m.nodes n) refl side in
-    let wired = wired_at m fit.well_part n x e in
-    let sized = wired.sized in
-    rw (part_node n h, e) (end_moved (renumber c a m) x.ends p (omega arith))
+      let (x, e, l) = port_within b m.nodes n p (slice_get m.nodes n) refl side in
+      let wired = wired_at m fit.well_part n x e in
+      let sized = wired.sized in
+      rw (part_node n h, e) (end_moved (renumber c a m) x.ends p (omega arith))
 
   pub net_may : (n : ℕ) → n ≢ a → (t : List ℕ) → may_at (slice_get (spliced c a m).nodes (net_place c a m n)) t ↔ may_at (slice_get c.nodes n) t
   net_may n ne t = subst (λ o. may_at o t ↔ may_at (slice_get c.nodes n) t) (sym (net_node n ne)) ((λ h. h), (λ h. h))
 
   pub part_may : (n : ℕ) → ◌≢◌ {A = ℕ} n 0 → (t : List ℕ)
-    → may_at (slice_get (spliced c a m).nodes (part_place c a m n)) t ↔ may_at (slice_get m.nodes n) t
+      → may_at (slice_get (spliced c a m).nodes (part_place c a m n)) t ↔ may_at (slice_get m.nodes n) t
   part_may n h t = subst (λ o. may_at o t ↔ may_at (slice_get m.nodes n) t) (sym (part_node n h))
-    (subst (λ X. X ↔ may_at (slice_get m.nodes n) t) (sym (may_moved (renumber c a m) (slice_get m.nodes n) t)) ((λ h. h), (λ h. h)))
+      (subst (λ X. X ↔ may_at (slice_get m.nodes n) t) (sym (may_moved (renumber c a m) (slice_get m.nodes n) t)) ((λ h. h), (λ h. h)))

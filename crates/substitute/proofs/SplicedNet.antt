@@ -1,17 +1,17 @@
 -- The spliced network is closed, and clean, sound and exact where its parts are.
-use Rattle.std.proofs.Common.{◌≡◌, ◌≢◌, ◌⊎◌, inl, inr, ℕ, zero, suc, ◌+◌, ◌-◌, ◌<◌, ◌≤◌, Bool, true, false, not, ◌&&◌, List, [], ◌∷◌, ◌++◌, length, map, get_or, Option, None, Some, All, refl, sym, ap, ◌∙◌, subst, arith, ◌==◌}
+use Rattle.std.proofs.Common.{◌≡◌, ◌≢◌, ◌⊎◌, inl, inr, ℕ, ◌+◌, ◌-◌, ◌<◌, ◌≤◌, true, not, List, [], length, map, get_or, Option, None, Some, All, refl, sym, ap, ◌∙◌, subst, arith, ◌==◌}
 use Rattle.std.specs.Prelude.{slice_get, option_map}
 use Rattle.std.proofs.lemmas.Bool.{cases_eq, cases_lt, false≢true, and_parts, not-true, eq-eqb}
 use Rattle.std.proofs.lemmas.Option.{get_or_from_slice_get, slice_get_within, same_Some, none-some}
 use Rattle.std.proofs.lemmas.List.Elements.{All-get_or, All-from_get_or}
 use Rattle.net_core.specs.Runs.{Sound, Exact}
-use Rattle.substitute.specs.Stub.{Node, Circuit, Wired, Well, outs_of}
+use Rattle.substitute.specs.Stub.{Node, Circuit, Wired, Well}
 use Rattle.substitute.specs.Ends.{end_at, gives, takes, driver, receiver, output, input, fabric, Once, ClosedByEnds, IsClean, may_at}
 use Rattle.substitute.specs.Splice.{is_inner, rank, renumber, moved, spliced, Fitting}
 use Rattle.substitute.proofs.Search.{rank_below, rank_onto}
-use Rattle.substitute.proofs.Located.{Located, found_only, gives_real, takes_real, wired_at}
+use Rattle.substitute.proofs.Located.{found_only, gives_real, takes_real, wired_at}
 use Rattle.substitute.proofs.Places.{net_place, part_place, net_alone, part_alone, places_apart, decode, spliced_length, net_node, part_node, net_gives, net_takes, net_end, part_gives, part_takes, length_map, end_moved}
-use Rattle.substitute.proofs.Fused.{Entering, Leaving, Inner, some_at, number_third, inner_from, net_gives_at, net_takes_at, part_gives_at, part_takes_at, given_there, kind, entering_known, leaving_known, one_wire}
+use Rattle.substitute.proofs.Fused.{some_at, number_third, net_gives_at, net_takes_at, part_gives_at, part_takes_at, given_there, kind, entering_known, leaving_known, one_wire}
 use Rattle.substitute.proofs.Spliced.{part_end_given, part_end_taken, given_net_once, given_part_once, taken_net_once, taken_part_once, goes_on, spliced_joins, joins_outside}
 use Rattle.substitute.proofs.JoinedSound.{joined_sound}
 use Rattle.substitute.proofs.JoinedExact.{joined_exact}
@@ -31,9 +31,10 @@ record AtPart (c : Circuit) (a : ℕ) (m : Circuit) (end : Circuit → ℕ → �
 inner_parts : (m : Circuit) (u : ℕ) → is_inner m u ≡ true → (◌≢◌ {A = ℕ} (driver m u) 0) × (◌≢◌ {A = ℕ} (receiver m u) 0)
 unfolding is_inner
 inner_parts m u e =
-  let both = and_parts (not (driver m u == 0)) (not (receiver m u == 0)) e in
-  ((λ h. false≢true (sym (not-true (driver m u == 0) both.0) ∙ eq-eqb (driver m u) 0 h)),
-    (λ h. false≢true (sym (not-true (receiver m u == 0) both.1) ∙ eq-eqb (receiver m u) 0 h)))
+    let both = and_parts (not (driver m u == 0)) (not (receiver m u == 0)) e in (
+      (λ h. false≢true (sym (not-true (driver m u == 0) both.0) ∙ eq-eqb (driver m u) 0 h)),
+      (λ h. false≢true (sym (not-true (receiver m u == 0) both.1) ∙ eq-eqb (receiver m u) 0 h)),
+    )
 
 spliced_wires : (c : Circuit) (a : ℕ) (m : Circuit) → (spliced c a m).wires ≡ c.wires + rank (is_inner m) m.wires
 unfolding spliced
@@ -41,9 +42,9 @@ spliced_wires c a m = refl
 
 all_moved : (f : ℕ → ℕ) (xs : List ℕ) (j k : ℕ) → ((w : ℕ) → w < j → f w < k) → All (λ w. w < j) xs → All (λ w. w < k) (map f xs)
 all_moved f xs j k h all = All-from_get_or (λ w. w < k) (map f xs) 0 (λ i l.
-  let n = length_map f xs in
-  let below : i < length xs = omega arith in
-  subst (λ w. w < k) (sym (end_moved f xs i below)) (h (get_or xs i 0) (All-get_or (λ w. w < j) xs i 0 below all)))
+    let n = length_map f xs in
+    let below : i < length xs = omega arith in
+    subst (λ w. w < k) (sym (end_moved f xs i below)) (h (get_or xs i 0) (All-get_or (λ w. w < j) xs i 0 below all)))
 
 all_more : (xs : List ℕ) (j k : ℕ) → j ≤ k → All (λ w. w < j) xs → All (λ w. w < k) xs
 all_more xs j k h all = All-from_get_or (λ w. w < k) xs 0 (λ i l. let x = All-get_or (λ w. w < j) xs i 0 l all in omega arith)
@@ -51,116 +52,139 @@ all_more xs j k h all = All-from_get_or (λ w. w < k) xs 0 (λ i l. let x = All-
 module _ (c : Circuit) (a : ℕ) (m : Circuit) (fit : Fitting c a m) where
   pub number_known : (u : ℕ) → u < m.wires → renumber c a m u < (spliced c a m).wires
   number_known u l = let wires = spliced_wires c a m in elim (kind c a m fit u l) [
-      inl x ↦ (let k = entering_known c a m fit u x in omega arith)
+    | inl x ↦ (let k = entering_known c a m fit u x in omega arith)
     | inr (inl x) ↦ (let k = leaving_known c a m fit u x in omega arith)
-    | inr (inr x) ↦ (let k = x.number in let r = rank_below (is_inner m) u m.wires l x.inner in omega arith) ]
+    | inr (inr x) ↦ (let k = x.number in let r = rank_below (is_inner m) u m.wires l x.inner in omega arith)
+  ]
 
   wired_net : (n : ℕ) (x : Node) → slice_get c.nodes n ≡ Some x → Wired (spliced c a m).wires x
   wired_net n x e =
-    let wired = wired_at c fit.well_net n x e in
-    record { sized = wired.sized; known = all_more x.ends c.wires (spliced c a m).wires (let wires = spliced_wires c a m in omega arith) wired.known }
+      let wired = wired_at c fit.well_net n x e in
+      record { sized = wired.sized; known = all_more x.ends c.wires (spliced c a m).wires (let wires = spliced_wires c a m in omega arith) wired.known }
 
   wired_part : (n : ℕ) (x : Node) → slice_get m.nodes n ≡ Some x → Wired (spliced c a m).wires (moved (renumber c a m) x)
   wired_part n x e =
-    let wired = wired_at m fit.well_part n x e in
-    record {
-      sized = length_map (renumber c a m) x.ends ∙ wired.sized;
-      known = all_moved (renumber c a m) x.ends m.wires (spliced c a m).wires (λ w l. number_known w l) wired.known
-    }
+      let wired = wired_at m fit.well_part n x e in
+      record {
+        sized = length_map (renumber c a m) x.ends ∙ wired.sized;
+        known = all_moved (renumber c a m) x.ends m.wires (spliced c a m).wires (λ w l. number_known w l) wired.known;
+      }
 
   wired_moved : (n : ℕ) (o : Option Node) → slice_get m.nodes n ≡ o → (y : Node) → option_map (moved (renumber c a m)) o ≡ Some y
-    → Wired (spliced c a m).wires y
+      → Wired (spliced c a m).wires y
   wired_moved n None e y h = absurd (none-some y h)
   wired_moved n (Some x) e y h = subst (Wired (spliced c a m).wires) (same_Some (moved (renumber c a m) x) y h) (wired_part n x e)
 
   wired_spliced : (k : ℕ) (y : Node) → slice_get (spliced c a m).nodes k ≡ Some y → Wired (spliced c a m).wires y
   wired_spliced k y e =
-    let l = slice_get_within (spliced c a m).nodes k y e in let s = spliced_length c a m fit in
-    elim (decode c a m fit k (omega arith)) [
-        inl (n, ne, at) ↦ wired_net n y (sym (net_node c a m fit n ne) ∙ ap (slice_get (spliced c a m).nodes) (sym at) ∙ e)
-      | inr (n, h, at) ↦ wired_moved n (slice_get m.nodes n) refl y
-          (sym (part_node c a m fit n h) ∙ ap (slice_get (spliced c a m).nodes) (sym at) ∙ e) ]
+      let l = slice_get_within (spliced c a m).nodes k y e in let s = spliced_length c a m fit in
+      elim (decode c a m fit k (omega arith)) [
+        | inl (n, ne, at) ↦ wired_net n y (sym (net_node c a m fit n ne) ∙ ap (slice_get (spliced c a m).nodes) (sym at) ∙ e)
+        | inr (n, h, at) ↦ wired_moved n (slice_get m.nodes n) refl y
+            (sym (part_node c a m fit n h) ∙ ap (slice_get (spliced c a m).nodes) (sym at) ∙ e)
+      ]
 
   pub spliced_well : Well (spliced c a m)
   spliced_well = record {
     some = (let s = spliced_length c a m fit in let ins = fit.inside in let comp = fit.component in let some = fit.well_part.some in omega arith);
     fit = (let (d, e) = some_at c.nodes a fit.inside in
-      All-from_get_or (Wired (spliced c a m).wires) (spliced c a m).nodes d (λ k l.
+        All-from_get_or (Wired (spliced c a m).wires) (spliced c a m).nodes d (λ k l.
         let (y, f) = some_at (spliced c a m).nodes k l in
-        subst (Wired (spliced c a m).wires) (sym (get_or_from_slice_get (spliced c a m).nodes k y d f)) (wired_spliced k y f)))
+        subst (Wired (spliced c a m).wires) (sym (get_or_from_slice_get (spliced c a m).nodes k y d f)) (wired_spliced k y f)));
   }
 
   -- a wire past those of c is an inner wire of m
   inner_at : (w : ℕ) → c.wires ≤ w → w < (spliced c a m).wires
-    → (u : ℕ) × (u < m.wires) × (renumber c a m u ≡ w) × (◌≢◌ {A = ℕ} (driver m u) 0) × (◌≢◌ {A = ℕ} (receiver m u) 0)
+      → (u : ℕ) × (u < m.wires) × (renumber c a m u ≡ w) × (◌≢◌ {A = ℕ} (driver m u) 0) × (◌≢◌ {A = ℕ} (receiver m u) 0)
   inner_at w g l =
-    let wires = spliced_wires c a m in
-    let (u, below, inner, r) = rank_onto (is_inner m) m.wires (w - c.wires) (omega arith) in
-    let (from, goes) = inner_parts m u inner in
-    let number = number_third c a m u from goes in
-    (u, below, omega arith, from, goes)
+      let wires = spliced_wires c a m in
+      let (u, below, inner, r) = rank_onto (is_inner m) m.wires (w - c.wires) (omega arith) in
+      let (from, goes) = inner_parts m u inner in
+      let number = number_third c a m u from goes in
+      (u, below, omega arith, from, goes)
 
   given_by : (w : ℕ) → w < (spliced c a m).wires → AtNet c a driver w ⊎ AtPart c a m driver w
   given_by w l = elim (cases_lt w c.wires) [
-      inl h ↦ elim (cases_eq (driver c w) a) [
-          inl e ↦ inr (from_part h e)
-        | inr ne ↦ inl (record { known = h; kept = ne }) ]
-    | inr g ↦ (let (u, below, at, from, goes) = inner_at w g l in inr (record { wire = u; below = below; number = at; kept = from })) ]
+    | inl h ↦ elim (cases_eq (driver c w) a) [
+      | inl e ↦ inr (from_part h e)
+      | inr ne ↦ inl (record { known = h; kept = ne })
+    ]
+    | inr g ↦ (let (u, below, at, from, goes) = inner_at w g l in inr (record { wire = u; below = below; number = at; kept = from }))
+  ]
     where
       from_part : w < c.wires → driver c w ≡ a → AtPart c a m driver w
       from_part h e =
-        let given : gives c a (output c w) ≡ true = ap (λ n. gives c n (output c w)) (sym e) ∙ (net_gives_at c a m fit).real w h in
-        let taken : takes m 0 (output c w) ≡ true = sym (given_there c a m fit (output c w)) ∙ given in
-        let goes : receiver m (end_at m 0 (output c w)) ≡ 0 = (part_takes_at c a m fit).node_at 0 (output c w) taken in
-        let port : input m (end_at m 0 (output c w)) ≡ output c w = (part_takes_at c a m fit).port_at 0 (output c w) taken in
-        let below = (part_takes_at c a m fit).known 0 (output c w) taken in
-        record {
-          wire = end_at m 0 (output c w);
-          below = below;
-          number = elim (kind c a m fit (end_at m 0 (output c w)) below) [
-              inl x ↦ absurd (fit.not_through (end_at m 0 (output c w)) below x.from goes)
-            | inr (inl x) ↦ x.number ∙ ap (end_at c a) port ∙ ap (λ n. end_at c n (output c w)) (sym e) ∙ (net_gives_at c a m fit).back w h
-            | inr (inr x) ↦ absurd (x.goes goes) ];
-          kept = λ from. fit.not_through (end_at m 0 (output c w)) below from goes
-        }
+          let given : gives c a (output c w) ≡ true = ap (λ n. gives c n (output c w)) (sym e) ∙ (net_gives_at c a m fit).real w h in
+          let taken : takes m 0 (output c w) ≡ true = sym (given_there c a m fit (output c w)) ∙ given in
+          let goes : receiver m (end_at m 0 (output c w)) ≡ 0 = (part_takes_at c a m fit).node_at 0 (output c w) taken in
+          let port : input m (end_at m 0 (output c w)) ≡ output c w = (part_takes_at c a m fit).port_at 0 (output c w) taken in
+          let below = (part_takes_at c a m fit).known 0 (output c w) taken in
+          record {
+            wire = end_at m 0 (output c w);
+            below = below;
+            number = elim (kind c a m fit (end_at m 0 (output c w)) below) [
+              | inl x ↦ absurd (fit.not_through (end_at m 0 (output c w)) below x.from goes)
+              | inr (inl x) ↦ x.number ∙ ap (end_at c a) port ∙ ap (λ n. end_at c n (output c w)) (sym e) ∙ (net_gives_at c a m fit).back w h
+              | inr (inr x) ↦ absurd (x.goes goes)
+            ];
+            kept = λ from. fit.not_through (end_at m 0 (output c w)) below from goes;
+          }
 
   taken_by : (w : ℕ) → w < (spliced c a m).wires → AtNet c a receiver w ⊎ AtPart c a m receiver w
   taken_by w l = elim (cases_lt w c.wires) [
-      inl h ↦ elim (cases_eq (receiver c w) a) [
-          inl e ↦ (let (g, at, from) = goes_on c a m fit w h e in
-            let below = (part_gives_at c a m fit).known 0 (input c w) g in
-            inr (record { wire = end_at m 0 (input c w); below = below; number = at;
-              kept = λ goes. fit.not_through (end_at m 0 (input c w)) below from goes }))
-        | inr ne ↦ inl (record { known = h; kept = ne }) ]
-    | inr g ↦ (let (u, below, at, from, goes) = inner_at w g l in inr (record { wire = u; below = below; number = at; kept = goes })) ]
+    | inl h ↦ elim (cases_eq (receiver c w) a) [
+      | inl e ↦ (let (g, at, from) = goes_on c a m fit w h e in
+          let below = (part_gives_at c a m fit).known 0 (input c w) g in
+          inr (record {
+            wire = end_at m 0 (input c w);
+            below = below;
+            number = at;
+            kept = λ goes. fit.not_through (end_at m 0 (input c w)) below from goes;
+          }))
+      | inr ne ↦ inl (record { known = h; kept = ne })
+    ]
+    | inr g ↦ (let (u, below, at, from, goes) = inner_at w g l in inr (record { wire = u; below = below; number = at; kept = goes }))
+  ]
 
   given_once : (w : ℕ) → AtNet c a driver w ⊎ AtPart c a m driver w → Once (gives (spliced c a m)) (spliced c a m) w
   given_once w (inl x) =
-    let g = (net_gives_at c a m fit).real w x.known in
-    let e = (net_gives_at c a m fit).back w x.known in
-    (net_place c a m (driver c w), output c w, net_gives c a m fit (driver c w) (output c w) x.kept ∙ g,
-      net_end c a m fit (driver c w) (output c w) x.kept ∙ e,
-      (λ k q h f. given_net_once c a m fit (driver c w) (output c w) x.kept g k q h (f ∙ sym e)))
+      let g = (net_gives_at c a m fit).real w x.known in
+      let e = (net_gives_at c a m fit).back w x.known in (
+        net_place c a m (driver c w),
+        output c w,
+        net_gives c a m fit (driver c w) (output c w) x.kept ∙ g,
+        net_end c a m fit (driver c w) (output c w) x.kept ∙ e,
+        (λ k q h f. given_net_once c a m fit (driver c w) (output c w) x.kept g k q h (f ∙ sym e)),
+      )
   given_once w (inr x) =
-    let g = (part_gives_at c a m fit).real x.wire x.below in
-    let e = ap (renumber c a m) ((part_gives_at c a m fit).back x.wire x.below) ∙ x.number in
-    (part_place c a m (driver m x.wire), output m x.wire, part_gives c a m fit (driver m x.wire) (output m x.wire) x.kept ∙ g,
-      part_end_given c a m fit (driver m x.wire) (output m x.wire) x.kept g ∙ e,
-      (λ k q h f. given_part_once c a m fit (driver m x.wire) (output m x.wire) x.kept g k q h (f ∙ sym e)))
+      let g = (part_gives_at c a m fit).real x.wire x.below in
+      let e = ap (renumber c a m) ((part_gives_at c a m fit).back x.wire x.below) ∙ x.number in (
+        part_place c a m (driver m x.wire),
+        output m x.wire,
+        part_gives c a m fit (driver m x.wire) (output m x.wire) x.kept ∙ g,
+        part_end_given c a m fit (driver m x.wire) (output m x.wire) x.kept g ∙ e,
+        (λ k q h f. given_part_once c a m fit (driver m x.wire) (output m x.wire) x.kept g k q h (f ∙ sym e)),
+      )
 
   taken_once : (w : ℕ) → AtNet c a receiver w ⊎ AtPart c a m receiver w → Once (takes (spliced c a m)) (spliced c a m) w
   taken_once w (inl x) =
-    let g = (net_takes_at c a m fit).real w x.known in
-    let e = (net_takes_at c a m fit).back w x.known in
-    (net_place c a m (receiver c w), input c w, net_takes c a m fit (receiver c w) (input c w) x.kept ∙ g,
-      net_end c a m fit (receiver c w) (input c w) x.kept ∙ e,
-      (λ k q h f. taken_net_once c a m fit (receiver c w) (input c w) x.kept g k q h (f ∙ sym e)))
+      let g = (net_takes_at c a m fit).real w x.known in
+      let e = (net_takes_at c a m fit).back w x.known in (
+        net_place c a m (receiver c w),
+        input c w,
+        net_takes c a m fit (receiver c w) (input c w) x.kept ∙ g,
+        net_end c a m fit (receiver c w) (input c w) x.kept ∙ e,
+        (λ k q h f. taken_net_once c a m fit (receiver c w) (input c w) x.kept g k q h (f ∙ sym e)),
+      )
   taken_once w (inr x) =
-    let g = (part_takes_at c a m fit).real x.wire x.below in
-    let e = ap (renumber c a m) ((part_takes_at c a m fit).back x.wire x.below) ∙ x.number in
-    (part_place c a m (receiver m x.wire), input m x.wire, part_takes c a m fit (receiver m x.wire) (input m x.wire) x.kept ∙ g,
-      part_end_taken c a m fit (receiver m x.wire) (input m x.wire) x.kept g ∙ e,
-      (λ k q h f. taken_part_once c a m fit (receiver m x.wire) (input m x.wire) x.kept g k q h (f ∙ sym e)))
+      let g = (part_takes_at c a m fit).real x.wire x.below in
+      let e = ap (renumber c a m) ((part_takes_at c a m fit).back x.wire x.below) ∙ x.number in (
+        part_place c a m (receiver m x.wire),
+        input m x.wire,
+        part_takes c a m fit (receiver m x.wire) (input m x.wire) x.kept ∙ g,
+        part_end_taken c a m fit (receiver m x.wire) (input m x.wire) x.kept g ∙ e,
+        (λ k q h f. taken_part_once c a m fit (receiver m x.wire) (input m x.wire) x.kept g k q h (f ∙ sym e)),
+      )
 
   pub spliced_closed : ClosedByEnds (spliced c a m)
   spliced_closed w l = (given_once w (given_by w l), taken_once w (taken_by w l))
@@ -168,11 +192,11 @@ module _ (c : Circuit) (a : ℕ) (m : Circuit) (fit : Fitting c a m) where
   -- the driver and the receiver of a wire in the result
   driver_of : (w : ℕ) (x : AtNet c a driver w ⊎ AtPart c a m driver w) → driver (spliced c a m) w ≡ (given_once w x).0
   driver_of w x = let (k, q, g, e, only) = given_once w x in
-    (found_only (gives (spliced c a m)) (spliced c a m) (gives_real (spliced c a m)) w k q g e only).0
+      (found_only (gives (spliced c a m)) (spliced c a m) (gives_real (spliced c a m)) w k q g e only).0
 
   receiver_of : (w : ℕ) (x : AtNet c a receiver w ⊎ AtPart c a m receiver w) → receiver (spliced c a m) w ≡ (taken_once w x).0
   receiver_of w x = let (k, q, g, e, only) = taken_once w x in
-    (found_only (takes (spliced c a m)) (spliced c a m) (takes_real (spliced c a m)) w k q g e only).0
+      (found_only (takes (spliced c a m)) (spliced c a m) (takes_real (spliced c a m)) w k q g e only).0
 
   pub spliced_clean : IsClean c → IsClean m → IsClean (spliced c a m)
   unfolding given_once taken_once
@@ -182,17 +206,17 @@ module _ (c : Circuit) (a : ℕ) (m : Circuit) (fit : Fitting c a m) where
       clash x y = apart x y (sym (driver_of w x) ∙ e ∙ receiver_of w y)
         where
           apart : (x : AtNet c a driver w ⊎ AtPart c a m driver w) (y : AtNet c a receiver w ⊎ AtPart c a m receiver w)
-            → (given_once w x).0 ≡ (taken_once w y).0 → ⊥
+              → (given_once w x).0 ≡ (taken_once w y).0 → ⊥
           apart (inl x) (inl y) f = net w x.known (net_alone c a m fit (driver c w) (receiver c w) x.kept y.kept f)
           apart (inl x) (inr y) f = places_apart c a m fit (driver c w) (receiver m y.wire) x.kept y.kept f
           apart (inr x) (inl y) f = places_apart c a m fit (receiver c w) (driver m x.wire) y.kept x.kept (sym f)
           apart (inr x) (inr y) f = part x.wire x.below (part_alone c a m fit (driver m x.wire) (receiver m y.wire) x.kept y.kept f
-            ∙ ap (receiver m) (one_wire c a m fit y.wire x.wire y.below x.below (y.number ∙ sym x.number)))
+              ∙ ap (receiver m) (one_wire c a m fit y.wire x.wire y.below x.below (y.number ∙ sym x.number)))
 
   pub spliced_sound : Sound (fabric c) → Sound (fabric m) → Sound (fabric (spliced c a m))
   spliced_sound f g = joined_sound (fabric c) a (fabric m) 0 (fabric (spliced c a m)) (spliced_joins c a m fit) f g
 
   pub spliced_exact : may_at (slice_get c.nodes a) [] → Sound (fabric c) → Sound (fabric m) → Exact (fabric c) → Exact (fabric m)
-    → Exact (fabric (spliced c a m))
+      → Exact (fabric (spliced c a m))
   spliced_exact empty f g x y = joined_exact (fabric c) a (fabric m) (fabric (spliced c a m)) (spliced_joins c a m fit)
-    (joins_outside c a m fit) (λ e. let comp = fit.component in omega arith) empty f g x y
+      (joins_outside c a m fit) (λ e. let comp = fit.component in omega arith) empty f g x y

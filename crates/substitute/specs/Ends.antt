@@ -19,6 +19,7 @@ may_at (Some x) t = May x.spec t
 -- the number of ports of the node n, and the wire at its port p
 unfoldable pub ports : Circuit → ℕ → ℕ
 ports c n = length (outs_at (slice_get c.nodes n))
+
 unfoldable pub end_at : Circuit → ℕ → ℕ → ℕ
 end_at c n p = get_or (ends_at (slice_get c.nodes n)) p 0
 
@@ -32,6 +33,7 @@ is_side false (Some o) = not o
 -- network's inputs and takes its outputs.
 unfoldable pub gives : Circuit → ℕ → ℕ → Bool
 gives c n p = is_side (not (n == 0)) (slice_get (outs_at (slice_get c.nodes n)) p)
+
 unfoldable pub takes : Circuit → ℕ → ℕ → Bool
 takes c n p = is_side (n == 0) (slice_get (outs_at (slice_get c.nodes n)) p)
 
@@ -48,15 +50,19 @@ any f (suc n) = f zero || any (λ k. f (suc k)) n
 -- Of the ends that f allows, the node and the port that are at the wire w.
 unfoldable pub end_node : (ℕ → ℕ → Bool) → Circuit → ℕ → ℕ
 end_node f c w = pick (λ n. any (λ p. f n p && end_at c n p == w) (ports c n)) (length c.nodes)
+
 unfoldable pub end_port : (ℕ → ℕ → Bool) → Circuit → ℕ → ℕ
 end_port f c w = pick (λ p. f (end_node f c w) p && end_at c (end_node f c w) p == w) (ports c (end_node f c w))
 
 abbrev pub driver : Circuit → ℕ → ℕ
 driver c = end_node (gives c) c
+
 abbrev pub receiver : Circuit → ℕ → ℕ
 receiver c = end_node (takes c) c
+
 abbrev pub output : Circuit → ℕ → ℕ
 output c = end_port (gives c) c
+
 abbrev pub input : Circuit → ℕ → ℕ
 input c = end_port (takes c) c
 
@@ -67,13 +73,13 @@ fabric c = record {
   fires = λ n p. gives c n p ≡ true;
   wire = end_at c;
   to = receiver c;
-  into = input c
+  into = input c;
 }
 
 -- One of the ends that f allows is at the wire w, and no other.
 abbrev pub Once : (ℕ → ℕ → Bool) → Circuit → ℕ → Type 0
 Once f c w = (n : ℕ) × (p : ℕ) × (f n p ≡ true) × (end_at c n p ≡ w)
-  × ((m q : ℕ) → f m q ≡ true → end_at c m q ≡ w → (m ≡ n) × (q ≡ p))
+    × ((m q : ℕ) → f m q ≡ true → end_at c m q ≡ w → (m ≡ n) × (q ≡ p))
 
 -- Each wire has one driver and one receiver.
 abbrev pub ClosedByEnds : Circuit → Type 0

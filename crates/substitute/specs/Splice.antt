@@ -1,5 +1,5 @@
 -- A network in the place of one node of another.
-use Rattle.std.specs.Prelude.{◌≡◌, ℕ, zero, suc, ◌+◌, ◌<◌, Bool, not, ◌&&◌, List, length, map, take, drop, ◌++◌, slice_get, Some, ◌==◌, if◌then◌else◌}
+use Rattle.std.specs.Prelude.{◌≡◌, ℕ, zero, suc, ◌+◌, ◌<◌, Bool, not, ◌&&◌, length, map, take, drop, ◌++◌, slice_get, Some, ◌==◌, if◌then◌else◌}
 use Rattle.substitute.specs.Stub.{Node, Circuit, Well}
 use Rattle.substitute.specs.Ends.{end_at, driver, receiver, output, input, ClosedByEnds}
 
@@ -16,9 +16,9 @@ rank f (suc n) = if f n then suc (rank f n) else rank f n
 -- fused with c's wire at the same port, and the inner wires come after c's wires in their order.
 unfoldable pub renumber : Circuit → ℕ → Circuit → ℕ → ℕ
 renumber c a m w =
-  if driver m w == 0 then end_at c a (output m w)
-  else if receiver m w == 0 then end_at c a (input m w)
-  else c.wires + rank (is_inner m) w
+    if driver m w == 0 then end_at c a (output m w)
+    else if receiver m w == 0 then end_at c a (input m w)
+    else c.wires + rank (is_inner m) w
 
 -- a node with other numbers for its wires
 abbrev pub moved : (ℕ → ℕ) → Node → Node
@@ -28,7 +28,7 @@ moved f x = record { spec = x.spec; ends = map f x.ends }
 unfoldable pub spliced : Circuit → ℕ → Circuit → Circuit
 spliced c a m = record {
   nodes = take a c.nodes ++ (map (moved (renumber c a m)) (drop 1 m.nodes) ++ drop (suc a) c.nodes);
-  wires = c.wires + rank (is_inner m) m.wires
+  wires = c.wires + rank (is_inner m) m.wires;
 }
 
 -- m may take the place of c's node a.
