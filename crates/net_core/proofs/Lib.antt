@@ -14,3 +14,5 @@ pub mod Rounds
 pub mod RoundsNets
 pub mod Meets
 pub mod Renumbered
+pub mod ClosedByEnds
+pub mod Located
