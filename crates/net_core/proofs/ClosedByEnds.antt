@@ -100,7 +100,7 @@ has_ports false w (true ∷ ds) (v ∷ ws) e = has_not_here (AtPort false w (tru
 has_ports false w (false ∷ ds) (v ∷ ws) e = has_more false false w v ds ws (picked false ds ws) refl (has_ports false w ds ws (omega arith))
 
 -- the directions of a component
-abbrev outs_at : Option Node → List Bool
+abbrev pub outs_at : Option Node → List Bool
 outs_at None = []
 outs_at (Some x) = outs_of x.spec
 

@@ -1,13 +1,16 @@
 -- The wires of a network and of its part in the spliced network.
-use Rattle.std.proofs.Common.{◌≡◌, ◌≢◌, ◌⊎◌, ◌↔◌, inl, inr, ℕ, zero, suc, ◌+◌, ◌<◌, ◌≤◌, Bool, true, false, List, [], ◌∷◌, length, Option, None, Some, refl, sym, ap, ◌∙◌, subst, arith, ◌==◌, if◌then◌else◌, ltb, lt-ltb, le-ltb, ne_eqb, eq-eqb}
-use Rattle.std.specs.Prelude.{slice_get}
+use Rattle.std.proofs.Common.{◌≡◌, ◌≢◌, ◌⊎◌, ◌↔◌, inl, inr, ℕ, zero, suc, ◌+◌, ◌<◌, ◌≤◌, Bool, true, false, not, map, List, [], ◌∷◌, length, Option, None, Some, refl, sym, ap, ◌∙◌, subst, arith, ◌==◌, if◌then◌else◌, ltb, lt-ltb, le-ltb, ne_eqb, eq-eqb}
+use Rattle.std.specs.Prelude.{slice_get, nat_eq}
 use Rattle.std.proofs.lemmas.Bool.{cases_lt, cases_eq, cases_Bool, false≢true, eqb-true}
 use Rattle.std.proofs.lemmas.Option.{same_Some, none-some}
-use Rattle.substitute.specs.Stub.{Circuit}
-use Rattle.substitute.specs.Ends.{outs_at, may_at, end_at, is_side, gives, takes, driver, receiver, output, input, pick, any}
-use Rattle.substitute.specs.Splice.{is_inner, rank, renumber, Fitting}
-use Rattle.substitute.proofs.Search.{pick_found, any_from, any_gives, rank_same}
-use Rattle.substitute.proofs.Located.{Located, gives_located, takes_located}
+use Rattle.std.specs.List.{list_any, range_with_len, position_or_len}
+use Rattle.net_core.specs.Specs.{outs_of, May}
+use Rattle.net_core.specs.Wiring.{Node, Circuit}
+use Rattle.net_core.specs.Networks.{directions_at, directions, gives, takes, end_at, may_of, spec_of}
+use Rattle.net_core.proofs.ClosedByEnds.{side_of, outs_at, exchanged, own_directions}
+use Rattle.net_core.proofs.Located.{Located, first_found, any_from, any_gives, gives_located, takes_located}
+use Rattle.substitute.specs.Splice.{driver, receiver, output, input, is_inner, rank, renumber, spliced, Fitting}
+use Rattle.substitute.proofs.Ranks.{rank_same}
 
 -- the wire of c that a wire of the result is
 pub here : Circuit → ℕ → Option ℕ
@@ -15,7 +18,7 @@ here c w = if ltb w c.wires then Some w else None
 
 -- the wire of m that it is
 pub there : Circuit → ℕ → Circuit → ℕ → Option ℕ
-there c a m w = if any (λ u. renumber c a m u == w) m.wires then Some (pick (λ u. renumber c a m u == w) m.wires) else None
+there c a m w = if list_any (λ u. nat_eq (renumber c a m u) w) (range_with_len 0 m.wires) then Some (position_or_len (λ u. nat_eq (renumber c a m u) w) (range_with_len 0 m.wires)) else None
 
 pub here_from : (c : Circuit) (w : ℕ) → w < c.wires → here c w ≡ Some w
 unfolding here
@@ -31,29 +34,29 @@ here_gives c w v e = elim (cases_lt w c.wires) [
   | inr g ↦ absurd (none-some v (sym (here_past c w g) ∙ e))
 ]
 
-there_none : (c : Circuit) (a : ℕ) (m : Circuit) (w : ℕ) → any (λ u. renumber c a m u == w) m.wires ≡ false → there c a m w ≡ None
+there_none : (c : Circuit) (a : ℕ) (m : Circuit) (w : ℕ) → list_any (λ u. nat_eq (renumber c a m u) w) (range_with_len 0 m.wires) ≡ false → there c a m w ≡ None
 unfolding there
 there_none c a m w e = rw e refl
 
-there_some : (c : Circuit) (a : ℕ) (m : Circuit) (w : ℕ) → any (λ u. renumber c a m u == w) m.wires ≡ true
-    → there c a m w ≡ Some (pick (λ u. renumber c a m u == w) m.wires)
+there_some : (c : Circuit) (a : ℕ) (m : Circuit) (w : ℕ) → list_any (λ u. nat_eq (renumber c a m u) w) (range_with_len 0 m.wires) ≡ true
+    → there c a m w ≡ Some (position_or_len (λ u. nat_eq (renumber c a m u) w) (range_with_len 0 m.wires))
 unfolding there
 there_some c a m w e = rw e refl
 
 pub there_gives : (c : Circuit) (a : ℕ) (m : Circuit) (w u : ℕ) → there c a m w ≡ Some u → (u < m.wires) × (renumber c a m u ≡ w)
-there_gives c a m w u e = elim (cases_Bool (any (λ x. renumber c a m x == w) m.wires)) [
-  | inl h ↦ (let (x, l, g) = any_gives (λ x. renumber c a m x == w) m.wires h in
-      let (at, below) = pick_found (λ x. renumber c a m x == w) m.wires x l g in
-      let same : pick (λ x. renumber c a m x == w) m.wires ≡ u = same_Some _ u (sym (there_some c a m w h) ∙ e) in (
+there_gives c a m w u e = elim (cases_Bool (list_any (λ x. nat_eq (renumber c a m x) w) (range_with_len 0 m.wires))) [
+  | inl h ↦ (let (x, l, g) = any_gives (λ x. nat_eq (renumber c a m x) w) m.wires h in
+      let (at, below) = first_found (λ x. nat_eq (renumber c a m x) w) m.wires x l g in
+      let same : position_or_len (λ x. nat_eq (renumber c a m x) w) (range_with_len 0 m.wires) ≡ u = same_Some _ u (sym (there_some c a m w h) ∙ e) in (
         subst (λ x. x < m.wires) same below,
-        ap (renumber c a m) (sym same) ∙ eqb-true (renumber c a m (pick (λ x. renumber c a m x == w) m.wires)) w at,
+        ap (renumber c a m) (sym same) ∙ eqb-true (renumber c a m (position_or_len (λ x. nat_eq (renumber c a m x) w) (range_with_len 0 m.wires))) w at,
       ))
   | inr h ↦ absurd (none-some u (sym (there_none c a m w h) ∙ e))
 ]
 
 pub there_not : (c : Circuit) (a : ℕ) (m : Circuit) (w : ℕ) → ((u : ℕ) → u < m.wires → renumber c a m u ≡ w → ⊥) → there c a m w ≡ None
-there_not c a m w h = elim (cases_Bool (any (λ x. renumber c a m x == w) m.wires)) [
-  | inl e ↦ (let (x, l, g) = any_gives (λ x. renumber c a m x == w) m.wires e in absurd (h x l (eqb-true (renumber c a m x) w g)))
+there_not c a m w h = elim (cases_Bool (list_any (λ x. nat_eq (renumber c a m x) w) (range_with_len 0 m.wires))) [
+  | inl e ↦ (let (x, l, g) = any_gives (λ x. nat_eq (renumber c a m x) w) m.wires e in absurd (h x l (eqb-true (renumber c a m x) w g)))
   | inr e ↦ there_none c a m w e
 ]
 
@@ -78,15 +81,28 @@ pub record Inner (c : Circuit) (a : ℕ) (m : Circuit) (u : ℕ) : Type 0 where
   pub number : renumber c a m u ≡ c.wires + rank (is_inner m) u
   pub inner : is_inner m u ≡ true
 
-both_sides : (o : Option Bool) → is_side true o ≡ true → is_side false o ≡ true → ⊥
-both_sides None g h = false≢true g
-both_sides (Some true) g h = false≢true h
-both_sides (Some false) g h = false≢true g
+both_sides : (ds : List Bool) (p : ℕ) → side_of true ds p ≡ true → side_of false ds p ≡ true → ⊥
+both_sides [] p g h = false≢true g
+both_sides (true ∷ ds) zero g h = false≢true h
+both_sides (false ∷ ds) zero g h = false≢true g
+both_sides (d ∷ ds) (suc p) g h = both_sides ds p g h
 
-pub some_at : {X : Type 0} (xs : List X) (n : ℕ) → n < length xs → (x : X) × (slice_get xs n ≡ Some x)
-some_at [] n h = absurd (omega arith)
-some_at (x ∷ xs) zero h = (x, refl)
-some_at (x ∷ xs) (suc n) h = some_at xs n (omega arith)
+outs_by_spec : (o r : Option Node) → spec_of o ≡ spec_of r → outs_at o ≡ outs_at r
+outs_by_spec None None e = refl
+outs_by_spec None (Some y) e = absurd (none-some y.spec e)
+outs_by_spec (Some x) None e = absurd (none-some x.spec (sym e))
+outs_by_spec (Some x) (Some y) e = ap outs_of (same_Some x.spec y.spec e)
+
+may_by_spec : (o r : Option Node) (t : List ℕ) → spec_of o ≡ spec_of r → may_of o t ≡ may_of r t
+may_by_spec None None t e = refl
+may_by_spec None (Some y) t e = absurd (none-some y.spec e)
+may_by_spec (Some x) None t e = absurd (none-some x.spec (sym e))
+may_by_spec (Some x) (Some y) t e = ap (λ s. May s t) (same_Some x.spec y.spec e)
+
+-- the environment has the directions of its specification exchanged
+outside_directions : (o : Option Node) → directions_at 0 o ≡ map not (outs_at o)
+outside_directions None = refl
+outside_directions (Some x) = refl
 
 number_first : (c : Circuit) (a : ℕ) (m : Circuit) (u : ℕ) → driver m u ≡ 0 → renumber c a m u ≡ end_at c a (output m u)
 unfolding renumber
@@ -108,31 +124,30 @@ inner_from m u h g = rw (ne_eqb (driver m u) 0 h, ne_eqb (receiver m u) 0 g) ref
 
 module _ (c : Circuit) (a : ℕ) (m : Circuit) (fit : Fitting c a m) where
   pub net_gives_at : Located (gives c) c
-  net_gives_at = gives_located c fit.well_net fit.closed_net
+  net_gives_at = gives_located c fit.fit_net fit.closed_net
 
   pub net_takes_at : Located (takes c) c
-  net_takes_at = takes_located c fit.well_net fit.closed_net
+  net_takes_at = takes_located c fit.fit_net fit.closed_net
 
   pub part_gives_at : Located (gives m) m
-  part_gives_at = gives_located m fit.well_part fit.closed_part
+  part_gives_at = gives_located m fit.fit_part fit.closed_part
 
   pub part_takes_at : Located (takes m) m
-  part_takes_at = takes_located m fit.well_part fit.closed_part
+  part_takes_at = takes_located m fit.fit_part fit.closed_part
 
-  same_outs : outs_at (slice_get c.nodes a) ≡ outs_at (slice_get m.nodes 0)
-  same_outs =
-      let (x, e) = some_at c.nodes a fit.inside in
-      let (y, f) = some_at m.nodes 0 fit.well_part.some in
-      ap outs_at e ∙ ap (λ s. outs_at (Some (record { spec = s; ends = x.ends }))) (fit.same x y e f) ∙ sym (ap outs_at f)
+  net_outs : directions c a ≡ outs_at (slice_get m.nodes 0)
+  net_outs = let comp = fit.component in own_directions a (slice_get c.nodes a) (λ e. omega arith)
+    ∙ outs_by_spec (slice_get c.nodes a) (slice_get m.nodes 0) fit.same
+
+  part_side : (b : Bool) (p : ℕ) → side_of b (directions m 0) p ≡ side_of (not b) (outs_at (slice_get m.nodes 0)) p
+  part_side b p = ap (λ ds. side_of b ds p) (outside_directions (slice_get m.nodes 0)) ∙ exchanged b (outs_at (slice_get m.nodes 0)) p
 
   -- What a takes the environment of m gives, and what a gives it takes.
   pub taken_there : (p : ℕ) → takes c a p ≡ gives m 0 p
-  unfolding takes gives
-  taken_there p = let comp = fit.component in rw (ne_eqb a 0 (λ e. omega arith), same_outs) refl
+  taken_there p = ap (λ ds. side_of false ds p) net_outs ∙ sym (part_side true p)
 
   pub given_there : (p : ℕ) → gives c a p ≡ takes m 0 p
-  unfolding takes gives
-  given_there p = let comp = fit.component in rw (ne_eqb a 0 (λ e. omega arith), same_outs) refl
+  given_there p = ap (λ ds. side_of true ds p) net_outs ∙ sym (part_side false p)
 
   entering : (u : ℕ) → u < m.wires → driver m u ≡ 0 → Entering c a m u
   entering u l e = record {
@@ -206,21 +221,13 @@ module _ (c : Circuit) (a : ℕ) (m : Circuit) (fit : Fitting c a m) where
 
   pub there_from : (w u : ℕ) → u < m.wires → renumber c a m u ≡ w → there c a m w ≡ Some u
   there_from w u l e =
-      let some = there_some c a m w (any_from (λ x. renumber c a m x == w) m.wires u l (eq-eqb (renumber c a m u) w e)) in
-      let (below, at) = there_gives c a m w (pick (λ x. renumber c a m x == w) m.wires) some in
-      some ∙ ap Some (one_wire (pick (λ x. renumber c a m x == w) m.wires) u below l (at ∙ sym e))
+      let some = there_some c a m w (any_from (λ x. nat_eq (renumber c a m x) w) m.wires u l (eq-eqb (renumber c a m u) w e)) in
+      let (below, at) = there_gives c a m w (position_or_len (λ x. nat_eq (renumber c a m x) w) (range_with_len 0 m.wires)) some in
+      some ∙ ap Some (one_wire (position_or_len (λ x. nat_eq (renumber c a m x) w) (range_with_len 0 m.wires)) u below l (at ∙ sym e))
 
   -- a and the environment of m have the same traces, and opposite ends
-  pub same_traces : (t : List ℕ) → may_at (slice_get c.nodes a) t ↔ may_at (slice_get m.nodes 0) t
-  same_traces t =
-      let (x, e) = some_at c.nodes a fit.inside in
-      let (y, f) = some_at m.nodes 0 fit.well_part.some in
-      let same : may_at (slice_get c.nodes a) t ≡ may_at (slice_get m.nodes 0) t =
-      ap (λ o. may_at o t) e ∙ ap (λ s. may_at (Some (record { spec = s; ends = x.ends })) t) (fit.same x y e f) ∙ sym (ap (λ o. may_at o t) f) in
-      subst (λ X. may_at (slice_get c.nodes a) t ↔ X) same ((λ h. h), (λ h. h))
+  pub same_traces : (t : List ℕ) → may_of (slice_get c.nodes a) t ↔ may_of (slice_get m.nodes 0) t
+  same_traces t = subst (λ X. may_of (slice_get c.nodes a) t ↔ X) (may_by_spec (slice_get c.nodes a) (slice_get m.nodes 0) t fit.same) ((λ h. h), (λ h. h))
 
   pub opposite_ends : (p : ℕ) → gives c a p ≡ true → gives m 0 p ≡ true → ⊥
-  unfolding gives
-  opposite_ends p g h = let comp = fit.component in
-      both_sides (slice_get (outs_at (slice_get m.nodes 0)) p)
-      (subst (λ xs. is_side true (slice_get xs p) ≡ true) same_outs (rw (ne_eqb a 0 (λ e. omega arith)) at g)) h
+  opposite_ends p g h = both_sides (directions c a) p g (taken_there p ∙ h)

@@ -3,8 +3,7 @@ pub mod Fused
 pub mod JoinedExact
 pub mod JoinedSound
 pub mod Joins
-pub mod Located
 pub mod Places
-pub mod Search
+pub mod Ranks
 pub mod Spliced
 pub mod SplicedNet

@@ -1,13 +1,14 @@
 -- Where the nodes of a network and of its part stand in the spliced network.
-use Rattle.std.proofs.Common.{◌≡◌, ◌≢◌, ◌⊎◌, ◌↔◌, inl, inr, ℕ, zero, suc, ◌+◌, ◌-◌, ◌*◌, ◌<◌, ◌≤◌, Bool, true, List, [], ◌∷◌, ◌++◌, length, map, take, drop, get_or, Option, None, Some, refl, sym, ap, ◌∙◌, subst, arith, ◌==◌, if◌then◌else◌, ltb, lt-ltb, le-ltb, ne_eqb, eq-eqb, length-drop, length-append}
-use Rattle.std.specs.Prelude.{slice_get, option_map}
+use Rattle.std.proofs.Common.{false, ◌≡◌, ◌≢◌, ◌⊎◌, ◌↔◌, inl, inr, ℕ, zero, suc, ◌+◌, ◌-◌, ◌*◌, ◌<◌, ◌≤◌, Bool, true, List, [], ◌∷◌, ◌++◌, length, map, take, drop, get_or, Option, None, Some, refl, sym, ap, ◌∙◌, subst, arith, ◌==◌, if◌then◌else◌, ltb, lt-ltb, le-ltb, ne_eqb, eq-eqb, length-drop, length-append}
+use Rattle.std.specs.Prelude.{slice_get, option_map, nat_eq}
 use Rattle.std.proofs.lemmas.Bool.{cases_lt, cases_eq}
 use Rattle.std.proofs.lemmas.Option.{slice_get-map, slice_get_past}
 use Rattle.std.proofs.lemmas.List.{get_or-map}
-use Rattle.substitute.specs.Stub.{Node, Circuit}
-use Rattle.substitute.specs.Ends.{outs_at, may_at, end_at, is_side, gives, takes}
 use Rattle.substitute.specs.Splice.{moved, renumber, spliced, Fitting}
-use Rattle.substitute.proofs.Located.{port_within, wired_at}
+use Rattle.net_core.specs.Wiring.{Node, Circuit, Fits}
+use Rattle.net_core.specs.Networks.{directions_at, directions, gives, takes, end_of, end_at, may_of}
+use Rattle.net_core.proofs.ClosedByEnds.{side_of}
+use Rattle.net_core.proofs.Located.{port_within, all_nodes}
 
 get_before : {X : Type 0} (xs ys : List X) (n : ℕ) → n < length xs → slice_get (xs ++ ys) n ≡ slice_get xs n
 get_before [] ys n h = absurd (omega arith)
@@ -51,11 +52,15 @@ pub part_place : Circuit → ℕ → Circuit → ℕ → ℕ
 part_place c a m n = if ltb n (length m.nodes) then (a + n) - 1
     else ((length c.nodes + 2 * n) - length m.nodes) - 1
 
-outs_moved : (f : ℕ → ℕ) (o : Option Node) → outs_at (option_map (moved f) o) ≡ outs_at o
-outs_moved f None = refl
-outs_moved f (Some x) = refl
+directions_same : (k n : ℕ) (o : Option Node) → nat_eq k 0 ≡ nat_eq n 0 → directions_at k o ≡ directions_at n o
+directions_same k n None e = refl
+directions_same k n (Some x) e = rw e refl
 
-may_moved : (f : ℕ → ℕ) (o : Option Node) (t : List ℕ) → may_at (option_map (moved f) o) t ≡ may_at o t
+directions_moved : (f : ℕ → ℕ) (k n : ℕ) (o : Option Node) → nat_eq k 0 ≡ nat_eq n 0 → directions_at k (option_map (moved f) o) ≡ directions_at n o
+directions_moved f k n None e = refl
+directions_moved f k n (Some x) e = rw e refl
+
+may_moved : (f : ℕ → ℕ) (o : Option Node) (t : List ℕ) → may_of (option_map (moved f) o) t ≡ may_of o t
 may_moved f None t = refl
 may_moved f (Some x) t = refl
 
@@ -74,8 +79,8 @@ module _ (c : Circuit) (a : ℕ) (m : Circuit) (fit : Fitting c a m) where
   net_cases n = elim (cases_lt n a) [
     | inl l ↦ inl (l, rw (lt-ltb n a l) refl)
     | inr g ↦ elim (cases_lt n (length c.nodes)) [
-      | inl l ↦ inr (inl (g, l, rw (le-ltb n a g, lt-ltb n (length c.nodes) l) (let some = fit.well_part.some in let comp = fit.component in omega arith)))
-      | inr h ↦ inr (inr (h, rw (le-ltb n a g, le-ltb n (length c.nodes) h) (let some = fit.well_part.some in let comp = fit.component in let ins = fit.inside in omega arith)))
+      | inl l ↦ inr (inl (g, l, rw (le-ltb n a g, lt-ltb n (length c.nodes) l) (let some = fit.some in let comp = fit.component in omega arith)))
+      | inr h ↦ inr (inr (h, rw (le-ltb n a g, le-ltb n (length c.nodes) h) (let some = fit.some in let comp = fit.component in let ins = fit.inside in omega arith)))
     ]
   ]
 
@@ -88,13 +93,13 @@ module _ (c : Circuit) (a : ℕ) (m : Circuit) (fit : Fitting c a m) where
   ]
 
   pub net_alone : (n k : ℕ) → n ≢ a → k ≢ a → net_place c a m n ≡ net_place c a m k → n ≡ k
-  net_alone n k g h e = let x = net_cases n in let y = net_cases k in let some = fit.well_part.some in let ins = fit.inside in omega arith
+  net_alone n k g h e = let x = net_cases n in let y = net_cases k in let some = fit.some in let ins = fit.inside in omega arith
 
   pub part_alone : (n k : ℕ) → ◌≢◌ {A = ℕ} n 0 → ◌≢◌ {A = ℕ} k 0 → part_place c a m n ≡ part_place c a m k → n ≡ k
-  part_alone n k g h e = let x = part_cases n in let y = part_cases k in let some = fit.well_part.some in let ins = fit.inside in omega arith
+  part_alone n k g h e = let x = part_cases n in let y = part_cases k in let some = fit.some in let ins = fit.inside in omega arith
 
   pub places_apart : (n k : ℕ) → n ≢ a → ◌≢◌ {A = ℕ} k 0 → net_place c a m n ≢ part_place c a m k
-  places_apart n k g h e = let x = net_cases n in let y = part_cases k in let some = fit.well_part.some in let ins = fit.inside in omega arith
+  places_apart n k g h e = let x = net_cases n in let y = part_cases k in let some = fit.some in let ins = fit.inside in omega arith
 
   pub net_zero : net_place c a m 0 ≡ 0
   net_zero = let x = net_cases 0 in let comp = fit.component in omega arith
@@ -117,7 +122,7 @@ module _ (c : Circuit) (a : ℕ) (m : Circuit) (fit : Fitting c a m) where
 
   middle_length : length (map (moved (renumber c a m)) (drop 1 m.nodes)) + 1 ≡ length m.nodes
   middle_length = let g = length_map (moved (renumber c a m)) (drop 1 m.nodes) in let d = length-drop 1 m.nodes in
-      let some = fit.well_part.some in omega arith
+      let some = fit.some in omega arith
 
   pub spliced_length : length (spliced c a m).nodes + 2 ≡ length c.nodes + length m.nodes
   unfolding spliced
@@ -135,7 +140,7 @@ module _ (c : Circuit) (a : ℕ) (m : Circuit) (fit : Fitting c a m) where
       → slice_get (spliced c a m).nodes (net_place c a m n) ≡ slice_get c.nodes n
   unfolding spliced
   net_after n ne g l e =
-      let f = front_length in let q = middle_length in let some = fit.well_part.some in
+      let f = front_length in let q = middle_length in let some = fit.some in
       get_after (take a c.nodes) (middle c a m ++ drop (suc a) c.nodes) (net_place c a m n) (net_place c a m n - a) (omega arith)
       ∙ get_after (middle c a m) (drop (suc a) c.nodes) (net_place c a m n - a) (n - suc a) (omega arith)
       ∙ get_drop (suc a) c.nodes (n - suc a) n (omega arith)
@@ -165,49 +170,50 @@ module _ (c : Circuit) (a : ℕ) (m : Circuit) (fit : Fitting c a m) where
         ∙ sym (ap (option_map (moved (renumber c a m))) (slice_get_past m.nodes n g))
   ]
 
-  net_test : (n : ℕ) → n ≢ a → (net_place c a m n == 0) ≡ (n == 0)
+  net_test : (n : ℕ) → n ≢ a → nat_eq (net_place c a m n) 0 ≡ nat_eq n 0
   net_test n ne = elim (cases_eq n 0) [
-    | inl e ↦ eq-eqb (net_place c a m n) 0 (ap (net_place c a m) e ∙ net_zero) ∙ sym (eq-eqb n 0 e)
-    | inr h ↦ ne_eqb (net_place c a m n) 0 (λ e. let x = net_cases n in let some = fit.well_part.some in let comp = fit.component in let ins = fit.inside in
-        h (omega arith)) ∙ sym (ne_eqb n 0 h)
-  ]
+      inl e ↦ eq-eqb (net_place c a m n) 0 (ap (net_place c a m) e ∙ net_zero) ∙ sym (eq-eqb n 0 e)
+    | inr h ↦ ne_eqb (net_place c a m n) 0 (λ e. let x = net_cases n in let some = fit.some in let comp = fit.component in let ins = fit.inside in
+        h (omega arith)) ∙ sym (ne_eqb n 0 h) ]
 
-  part_test : (n : ℕ) → ◌≢◌ {A = ℕ} n 0 → (part_place c a m n == 0) ≡ (n == 0)
+  part_test : (n : ℕ) → ◌≢◌ {A = ℕ} n 0 → nat_eq (part_place c a m n) 0 ≡ nat_eq n 0
   part_test n h = ne_eqb (part_place c a m n) 0 (part_above n h) ∙ sym (ne_eqb n 0 h)
 
+  net_directions : (n : ℕ) → n ≢ a → directions (spliced c a m) (net_place c a m n) ≡ directions c n
+  net_directions n ne = ap (directions_at (net_place c a m n)) (net_node n ne) ∙ directions_same (net_place c a m n) n (slice_get c.nodes n) (net_test n ne)
+
+  part_directions : (n : ℕ) → ◌≢◌ {A = ℕ} n 0 → directions (spliced c a m) (part_place c a m n) ≡ directions m n
+  part_directions n h = ap (directions_at (part_place c a m n)) (part_node n h)
+    ∙ directions_moved (renumber c a m) (part_place c a m n) n (slice_get m.nodes n) (part_test n h)
+
   pub net_gives : (n p : ℕ) → n ≢ a → gives (spliced c a m) (net_place c a m n) p ≡ gives c n p
-  unfolding gives
-  net_gives n p ne = rw (net_node n ne, net_test n ne) refl
+  net_gives n p ne = ap (λ ds. side_of true ds p) (net_directions n ne)
 
   pub net_takes : (n p : ℕ) → n ≢ a → takes (spliced c a m) (net_place c a m n) p ≡ takes c n p
-  unfolding takes
-  net_takes n p ne = rw (net_node n ne, net_test n ne) refl
+  net_takes n p ne = ap (λ ds. side_of false ds p) (net_directions n ne)
 
   pub net_end : (n p : ℕ) → n ≢ a → end_at (spliced c a m) (net_place c a m n) p ≡ end_at c n p
-  unfolding end_at
-  net_end n p ne = rw (net_node n ne) refl
+  net_end n p ne = ap (λ o. end_of o p) (net_node n ne)
 
   pub part_gives : (n p : ℕ) → ◌≢◌ {A = ℕ} n 0 → gives (spliced c a m) (part_place c a m n) p ≡ gives m n p
-  unfolding gives
-  part_gives n p h = rw (part_node n h, part_test n h, outs_moved (renumber c a m) (slice_get m.nodes n)) refl
+  part_gives n p h = ap (λ ds. side_of true ds p) (part_directions n h)
 
   pub part_takes : (n p : ℕ) → ◌≢◌ {A = ℕ} n 0 → takes (spliced c a m) (part_place c a m n) p ≡ takes m n p
-  unfolding takes
-  part_takes n p h = rw (part_node n h, part_test n h, outs_moved (renumber c a m) (slice_get m.nodes n)) refl
+  part_takes n p h = ap (λ ds. side_of false ds p) (part_directions n h)
 
-  pub part_end : (b : Bool) (n p : ℕ) → ◌≢◌ {A = ℕ} n 0 → is_side b (slice_get (outs_at (slice_get m.nodes n)) p) ≡ true
-      → end_at (spliced c a m) (part_place c a m n) p ≡ renumber c a m (end_at m n p)
-  unfolding end_at
+  pub part_end : (b : Bool) (n p : ℕ) → ◌≢◌ {A = ℕ} n 0 → side_of b (directions m n) p ≡ true
+    → end_at (spliced c a m) (part_place c a m n) p ≡ renumber c a m (end_at m n p)
   part_end b n p h side =
-      let (x, e, l) = port_within b m.nodes n p (slice_get m.nodes n) refl side in
-      let wired = wired_at m fit.well_part n x e in
-      let sized = wired.sized in
-      rw (part_node n h, e) (end_moved (renumber c a m) x.ends p (omega arith))
+    let (x, e, l) = port_within b m.nodes n p (slice_get m.nodes n) refl side in
+    let fits = all_nodes (Fits m.wires) m.nodes n x fit.fit_part e in
+    let sized = fits.sized in
+    ap (λ o. end_of o p) (part_node n h) ∙ ap (λ o. end_of (option_map (moved (renumber c a m)) o) p) e
+      ∙ end_moved (renumber c a m) x.ends p (omega arith) ∙ ap (λ o. renumber c a m (end_of o p)) (sym e)
 
-  pub net_may : (n : ℕ) → n ≢ a → (t : List ℕ) → may_at (slice_get (spliced c a m).nodes (net_place c a m n)) t ↔ may_at (slice_get c.nodes n) t
-  net_may n ne t = subst (λ o. may_at o t ↔ may_at (slice_get c.nodes n) t) (sym (net_node n ne)) ((λ h. h), (λ h. h))
+  pub net_may : (n : ℕ) → n ≢ a → (t : List ℕ) → may_of (slice_get (spliced c a m).nodes (net_place c a m n)) t ↔ may_of (slice_get c.nodes n) t
+  net_may n ne t = subst (λ o. may_of o t ↔ may_of (slice_get c.nodes n) t) (sym (net_node n ne)) ((λ h. h), (λ h. h))
 
   pub part_may : (n : ℕ) → ◌≢◌ {A = ℕ} n 0 → (t : List ℕ)
-      → may_at (slice_get (spliced c a m).nodes (part_place c a m n)) t ↔ may_at (slice_get m.nodes n) t
-  part_may n h t = subst (λ o. may_at o t ↔ may_at (slice_get m.nodes n) t) (sym (part_node n h))
-      (subst (λ X. X ↔ may_at (slice_get m.nodes n) t) (sym (may_moved (renumber c a m) (slice_get m.nodes n) t)) ((λ h. h), (λ h. h)))
+      → may_of (slice_get (spliced c a m).nodes (part_place c a m n)) t ↔ may_of (slice_get m.nodes n) t
+  part_may n h t = subst (λ o. may_of o t ↔ may_of (slice_get m.nodes n) t) (sym (part_node n h))
+      (subst (λ X. X ↔ may_of (slice_get m.nodes n) t) (sym (may_moved (renumber c a m) (slice_get m.nodes n) t)) ((λ h. h), (λ h. h)))

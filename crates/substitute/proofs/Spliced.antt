@@ -1,10 +1,10 @@
 -- The spliced network is its two parts joined at the node that was replaced.
-use Rattle.std.proofs.Common.{◌≡◌, ◌≢◌, ◌⊎◌, inl, inr, ℕ, ◌<◌, ◌≤◌, Bool, true, not, Some, refl, sym, ap, ◌∙◌, arith, ◌==◌}
-use Rattle.substitute.specs.Stub.{Circuit}
-use Rattle.substitute.specs.Ends.{end_at, gives, takes, driver, receiver, output, input, fabric}
-use Rattle.substitute.specs.Splice.{renumber, spliced, Fitting}
+use Rattle.std.proofs.Common.{false, ◌≡◌, ◌≢◌, ◌⊎◌, inl, inr, ℕ, ◌<◌, ◌≤◌, Bool, true, not, Some, refl, sym, ap, ◌∙◌, arith, ◌==◌}
+use Rattle.net_core.specs.Wiring.{Circuit}
+use Rattle.net_core.specs.Networks.{directions, gives, takes, end_at, may_of, fabric}
+use Rattle.net_core.proofs.Located.{Located, found_only, gives_real, takes_real}
+use Rattle.substitute.specs.Splice.{driver, receiver, output, input, renumber, spliced, Fitting}
 use Rattle.substitute.proofs.Joins.{Half, Joins}
-use Rattle.substitute.proofs.Located.{found_only, gives_real, takes_real}
 use Rattle.substitute.proofs.Places.{net_place, part_place, net_alone, part_alone, places_apart, net_zero, decode, spliced_length, net_gives, net_takes, net_end, part_gives, part_takes, part_end, net_may, part_may}
 use Rattle.substitute.proofs.Fused.{here, there, here_from, here_past, here_gives, there_gives, there_not, there_from, net_gives_at, net_takes_at, part_gives_at, part_takes_at, taken_there, kind, entering_to, leaving_from, leaving_known, inner_past, one_wire, same_traces, opposite_ends}
 
@@ -26,12 +26,10 @@ pub record OfPart (c : Circuit) (a : ℕ) (m : Circuit) (f : ℕ → ℕ → Boo
 
 module _ (c : Circuit) (a : ℕ) (m : Circuit) (fit : Fitting c a m) where
   pub part_end_given : (n p : ℕ) → ◌≢◌ {A = ℕ} n 0 → gives m n p ≡ true → end_at (spliced c a m) (part_place c a m n) p ≡ renumber c a m (end_at m n p)
-  unfolding gives
-  part_end_given n p h g = part_end c a m fit (not (n == 0)) n p h g
+  part_end_given n p h g = part_end c a m fit true n p h g
 
   pub part_end_taken : (n p : ℕ) → ◌≢◌ {A = ℕ} n 0 → takes m n p ≡ true → end_at (spliced c a m) (part_place c a m n) p ≡ renumber c a m (end_at m n p)
-  unfolding takes
-  part_end_taken n p h g = part_end c a m fit (n == 0) n p h g
+  part_end_taken n p h g = part_end c a m fit false n p h g
 
   pub given_origin : (k q : ℕ) → gives (spliced c a m) k q ≡ true → OfNet c a m (gives c) k q ⊎ OfPart c a m (gives m) k q
   given_origin k q g =
@@ -173,7 +171,7 @@ module _ (c : Circuit) (a : ℕ) (m : Circuit) (fit : Fitting c a m) where
         given,
         elim (kind c a m fit (end_at m 0 (input c v)) ((part_gives_at c a m fit).known 0 (input c v) given)) [
           | inl x ↦ x.number ∙ ap (end_at c a) port ∙ ap (λ n. end_at c n (input c v)) (sym e) ∙ (net_takes_at c a m fit).back v l
-          | inr (inl x) ↦ absurd (fit.not_through (end_at m 0 (input c v)) ((part_gives_at c a m fit).known 0 (input c v) given) from x.goes)
+          | inr (inl x) ↦ absurd (fit.not_through (end_at m 0 (input c v)) ((part_gives_at c a m fit).known 0 (input c v) given) (from, x.goes))
           | inr (inr x) ↦ absurd (x.from from)
         ],
         from,
@@ -183,7 +181,7 @@ module _ (c : Circuit) (a : ℕ) (m : Circuit) (fit : Fitting c a m) where
   pub goes_out : (u : ℕ) → u < m.wires → receiver m u ≡ 0
       → (gives c a (input m u) ≡ true) × (renumber c a m u ≡ end_at c a (input m u)) × (renumber c a m u < c.wires)
   goes_out u l e = elim (kind c a m fit u l) [
-    | inl x ↦ absurd (fit.not_through u l x.from e)
+    | inl x ↦ absurd (fit.not_through u l (x.from, e))
     | inr (inl x) ↦ (x.given, x.number, leaving_known c a m fit u x)
     | inr (inr x) ↦ absurd (x.goes e)
   ]
@@ -203,7 +201,7 @@ module _ (c : Circuit) (a : ℕ) (m : Circuit) (fit : Fitting c a m) where
     on = λ w v e at. let (same, l) = here_gives c w v e in let (g, back, from) = goes_on v l at in
         there_from c a m fit w (end_at m 0 (input c v)) ((part_gives_at c a m fit).known 0 (input c v) g) (back ∙ sym same);
     past = λ w v e at h. let (same, l) = here_gives c w v e in let (g, back, from) = goes_on v l at in
-        fit.not_through (end_at m 0 (input c v)) ((part_gives_at c a m fit).known 0 (input c v) g) from h;
+        fit.not_through (end_at m 0 (input c v)) ((part_gives_at c a m fit).known 0 (input c v) g) (from, h);
   }
 
   right_half : Half (fabric m) 0 (fabric c) a (fabric (spliced c a m)) (part_place c a m) (there c a m) (here c)

@@ -1,17 +1,20 @@
 -- The spliced network is closed, and clean, sound and exact where its parts are.
-use Rattle.std.proofs.Common.{◌≡◌, ◌≢◌, ◌⊎◌, inl, inr, ℕ, ◌+◌, ◌-◌, ◌<◌, ◌≤◌, true, not, List, [], length, map, get_or, Option, None, Some, All, refl, sym, ap, ◌∙◌, subst, arith, ◌==◌}
-use Rattle.std.specs.Prelude.{slice_get, option_map}
+use Rattle.std.proofs.Common.{zero, suc, ◌∷◌, ◌≡◌, ◌≢◌, ◌⊎◌, inl, inr, ℕ, ◌+◌, ◌-◌, ◌<◌, ◌≤◌, true, not, List, [], length, map, get_or, Option, None, Some, All, refl, sym, ap, ◌∙◌, subst, arith, ◌==◌}
+use Rattle.std.specs.Prelude.{slice_get, option_map, nat_eq}
 use Rattle.std.proofs.lemmas.Bool.{cases_eq, cases_lt, false≢true, and_parts, not-true, eq-eqb}
-use Rattle.std.proofs.lemmas.Option.{get_or_from_slice_get, slice_get_within, same_Some, none-some}
-use Rattle.std.proofs.lemmas.List.Elements.{All-get_or, All-from_get_or}
+use Rattle.std.proofs.lemmas.Option.{slice_get_within, get_or_from_slice_get, same_Some, none-some}
+use Rattle.std.specs.List.{AllByRecursion}
 use Rattle.net_core.specs.Runs.{Sound, Exact}
-use Rattle.substitute.specs.Stub.{Node, Circuit, Wired, Well}
-use Rattle.substitute.specs.Ends.{end_at, gives, takes, driver, receiver, output, input, fabric, Once, ClosedByEnds, IsClean, may_at}
-use Rattle.substitute.specs.Splice.{is_inner, rank, renumber, moved, spliced, Fitting}
-use Rattle.substitute.proofs.Search.{rank_below, rank_onto}
-use Rattle.substitute.proofs.Located.{found_only, gives_real, takes_real, wired_at}
-use Rattle.substitute.proofs.Places.{net_place, part_place, net_alone, part_alone, places_apart, decode, spliced_length, net_node, part_node, net_gives, net_takes, net_end, part_gives, part_takes, length_map, end_moved}
-use Rattle.substitute.proofs.Fused.{some_at, number_third, net_gives_at, net_takes_at, part_gives_at, part_takes_at, given_there, kind, entering_known, leaving_known, one_wire}
+use Rattle.net_core.specs.Specs.{IsFormed}
+use Rattle.net_core.specs.Wiring.{Node, Circuit, Fits, IsClosed}
+use Rattle.net_core.specs.Networks.{gives, takes, end_at, may_of, spec_of, fabric, IsSpecified, SoundFor, Correct, IsClean}
+use Rattle.net_core.specs.declared.spec.NodeSpec.{NodeSpec}
+use Rattle.net_core.proofs.ClosedByEnds.{Once, closed_counts}
+use Rattle.net_core.proofs.Located.{Located, found_only, gives_real, takes_real, all_nodes}
+use Rattle.substitute.specs.Splice.{driver, receiver, output, input, is_inner, rank, renumber, moved, spliced, Fitting}
+use Rattle.substitute.proofs.Ranks.{rank_below, rank_onto}
+use Rattle.substitute.proofs.Places.{net_zero, net_place, part_place, net_alone, part_alone, places_apart, decode, spliced_length, net_node, part_node, net_gives, net_takes, net_end, part_gives, part_takes, length_map, end_moved}
+use Rattle.substitute.proofs.Fused.{number_third, net_gives_at, net_takes_at, part_gives_at, part_takes_at, given_there, kind, entering_known, leaving_known, one_wire}
 use Rattle.substitute.proofs.Spliced.{part_end_given, part_end_taken, given_net_once, given_part_once, taken_net_once, taken_part_once, goes_on, spliced_joins, joins_outside}
 use Rattle.substitute.proofs.JoinedSound.{joined_sound}
 use Rattle.substitute.proofs.JoinedExact.{joined_exact}
@@ -31,23 +34,27 @@ record AtPart (c : Circuit) (a : ℕ) (m : Circuit) (end : Circuit → ℕ → �
 inner_parts : (m : Circuit) (u : ℕ) → is_inner m u ≡ true → (◌≢◌ {A = ℕ} (driver m u) 0) × (◌≢◌ {A = ℕ} (receiver m u) 0)
 unfolding is_inner
 inner_parts m u e =
-    let both = and_parts (not (driver m u == 0)) (not (receiver m u == 0)) e in (
-      (λ h. false≢true (sym (not-true (driver m u == 0) both.0) ∙ eq-eqb (driver m u) 0 h)),
-      (λ h. false≢true (sym (not-true (receiver m u == 0) both.1) ∙ eq-eqb (receiver m u) 0 h)),
+    let both = and_parts (not (nat_eq (driver m u) 0)) (not (nat_eq (receiver m u) 0)) e in (
+      (λ h. false≢true (sym (not-true (nat_eq (driver m u) 0) both.0) ∙ eq-eqb (driver m u) 0 h)),
+      (λ h. false≢true (sym (not-true (nat_eq (receiver m u) 0) both.1) ∙ eq-eqb (receiver m u) 0 h)),
     )
 
 spliced_wires : (c : Circuit) (a : ℕ) (m : Circuit) → (spliced c a m).wires ≡ c.wires + rank (is_inner m) m.wires
 unfolding spliced
 spliced_wires c a m = refl
 
-all_moved : (f : ℕ → ℕ) (xs : List ℕ) (j k : ℕ) → ((w : ℕ) → w < j → f w < k) → All (λ w. w < j) xs → All (λ w. w < k) (map f xs)
-all_moved f xs j k h all = All-from_get_or (λ w. w < k) (map f xs) 0 (λ i l.
-    let n = length_map f xs in
-    let below : i < length xs = omega arith in
-    subst (λ w. w < k) (sym (end_moved f xs i below)) (h (get_or xs i 0) (All-get_or (λ w. w < j) xs i 0 below all)))
+all_moved : (f : ℕ → ℕ) (xs : List ℕ) (j k : ℕ) → ((w : ℕ) → w < j → f w < k) → AllByRecursion (λ w. w < j) xs
+  → AllByRecursion (λ w. w < k) (map f xs)
+all_moved f [] j k h all = tt
+all_moved f (x ∷ xs) j k h all = (h x all.0, all_moved f xs j k h all.1)
 
-all_more : (xs : List ℕ) (j k : ℕ) → j ≤ k → All (λ w. w < j) xs → All (λ w. w < k) xs
-all_more xs j k h all = All-from_get_or (λ w. w < k) xs 0 (λ i l. let x = All-get_or (λ w. w < j) xs i 0 l all in omega arith)
+all_more : (xs : List ℕ) (j k : ℕ) → j ≤ k → AllByRecursion (λ w. w < j) xs → AllByRecursion (λ w. w < k) xs
+all_more [] j k h all = tt
+all_more (x ∷ xs) j k h all = let l = all.0 in (omega arith, all_more xs j k h all.1)
+
+all_from : (P : Node → Type 0) (xs : List Node) → ((k : ℕ) (x : Node) → slice_get xs k ≡ Some x → P x) → AllByRecursion P xs
+all_from P [] h = tt
+all_from P (x ∷ xs) h = (h 0 x refl, all_from P xs (λ k y e. h (suc k) y e))
 
 module _ (c : Circuit) (a : ℕ) (m : Circuit) (fit : Fitting c a m) where
   pub number_known : (u : ℕ) → u < m.wires → renumber c a m u < (spliced c a m).wires
@@ -57,41 +64,43 @@ module _ (c : Circuit) (a : ℕ) (m : Circuit) (fit : Fitting c a m) where
     | inr (inr x) ↦ (let k = x.number in let r = rank_below (is_inner m) u m.wires l x.inner in omega arith)
   ]
 
-  wired_net : (n : ℕ) (x : Node) → slice_get c.nodes n ≡ Some x → Wired (spliced c a m).wires x
-  wired_net n x e =
-      let wired = wired_at c fit.well_net n x e in
-      record { sized = wired.sized; known = all_more x.ends c.wires (spliced c a m).wires (let wires = spliced_wires c a m in omega arith) wired.known }
+  fits_net : (n : ℕ) (x : Node) → slice_get c.nodes n ≡ Some x → Fits (spliced c a m).wires x
+  fits_net n x e =
+    let fits = all_nodes (Fits c.wires) c.nodes n x fit.fit_net e in
+    record {
+      sized = fits.sized;
+      known = all_more x.ends c.wires (spliced c a m).wires (let wires = spliced_wires c a m in omega arith) fits.known;
+      formed = fits.formed
+    }
 
-  wired_part : (n : ℕ) (x : Node) → slice_get m.nodes n ≡ Some x → Wired (spliced c a m).wires (moved (renumber c a m) x)
-  wired_part n x e =
-      let wired = wired_at m fit.well_part n x e in
-      record {
-        sized = length_map (renumber c a m) x.ends ∙ wired.sized;
-        known = all_moved (renumber c a m) x.ends m.wires (spliced c a m).wires (λ w l. number_known w l) wired.known;
-      }
+  fits_part : (n : ℕ) (x : Node) → slice_get m.nodes n ≡ Some x → Fits (spliced c a m).wires (moved (renumber c a m) x)
+  fits_part n x e =
+    let fits = all_nodes (Fits m.wires) m.nodes n x fit.fit_part e in
+    record {
+      sized = length_map (renumber c a m) x.ends ∙ fits.sized;
+      known = all_moved (renumber c a m) x.ends m.wires (spliced c a m).wires (λ w l. number_known w l) fits.known;
+      formed = fits.formed
+    }
 
-  wired_moved : (n : ℕ) (o : Option Node) → slice_get m.nodes n ≡ o → (y : Node) → option_map (moved (renumber c a m)) o ≡ Some y
-      → Wired (spliced c a m).wires y
-  wired_moved n None e y h = absurd (none-some y h)
-  wired_moved n (Some x) e y h = subst (Wired (spliced c a m).wires) (same_Some (moved (renumber c a m) x) y h) (wired_part n x e)
+  fits_moved : (n : ℕ) (o : Option Node) → slice_get m.nodes n ≡ o → (y : Node) → option_map (moved (renumber c a m)) o ≡ Some y
+    → Fits (spliced c a m).wires y
+  fits_moved n None e y h = absurd (none-some y h)
+  fits_moved n (Some x) e y h = subst (Fits (spliced c a m).wires) (same_Some (moved (renumber c a m) x) y h) (fits_part n x e)
 
-  wired_spliced : (k : ℕ) (y : Node) → slice_get (spliced c a m).nodes k ≡ Some y → Wired (spliced c a m).wires y
-  wired_spliced k y e =
-      let l = slice_get_within (spliced c a m).nodes k y e in let s = spliced_length c a m fit in
-      elim (decode c a m fit k (omega arith)) [
-        | inl (n, ne, at) ↦ wired_net n y (sym (net_node c a m fit n ne) ∙ ap (slice_get (spliced c a m).nodes) (sym at) ∙ e)
-        | inr (n, h, at) ↦ wired_moved n (slice_get m.nodes n) refl y
-            (sym (part_node c a m fit n h) ∙ ap (slice_get (spliced c a m).nodes) (sym at) ∙ e)
-      ]
+  fits_at : (k : ℕ) (y : Node) → slice_get (spliced c a m).nodes k ≡ Some y → Fits (spliced c a m).wires y
+  fits_at k y e =
+    let l = slice_get_within (spliced c a m).nodes k y e in let s = spliced_length c a m fit in
+    elim (decode c a m fit k (omega arith)) [
+        inl (n, ne, at) ↦ fits_net n y (sym (net_node c a m fit n ne) ∙ ap (slice_get (spliced c a m).nodes) (sym at) ∙ e)
+      | inr (n, h, at) ↦ fits_moved n (slice_get m.nodes n) refl y
+          (sym (part_node c a m fit n h) ∙ ap (slice_get (spliced c a m).nodes) (sym at) ∙ e) ]
 
-  pub spliced_well : Well (spliced c a m)
-  spliced_well = record {
-    some = (let s = spliced_length c a m fit in let ins = fit.inside in let comp = fit.component in let some = fit.well_part.some in omega arith);
-    fit = (let (d, e) = some_at c.nodes a fit.inside in
-        All-from_get_or (Wired (spliced c a m).wires) (spliced c a m).nodes d (λ k l.
-        let (y, f) = some_at (spliced c a m).nodes k l in
-        subst (Wired (spliced c a m).wires) (sym (get_or_from_slice_get (spliced c a m).nodes k y d f)) (wired_spliced k y f)));
-  }
+  -- each node of the result has its wires
+  pub spliced_fits : AllByRecursion (Fits (spliced c a m).wires) (spliced c a m).nodes
+  spliced_fits = all_from (Fits (spliced c a m).wires) (spliced c a m).nodes fits_at
+
+  pub spliced_some : 0 < length (spliced c a m).nodes
+  spliced_some = let s = spliced_length c a m fit in let ins = fit.inside in let comp = fit.component in let some = fit.some in omega arith
 
   -- a wire past those of c is an inner wire of m
   inner_at : (w : ℕ) → c.wires ≤ w → w < (spliced c a m).wires
@@ -123,11 +132,11 @@ module _ (c : Circuit) (a : ℕ) (m : Circuit) (fit : Fitting c a m) where
             wire = end_at m 0 (output c w);
             below = below;
             number = elim (kind c a m fit (end_at m 0 (output c w)) below) [
-              | inl x ↦ absurd (fit.not_through (end_at m 0 (output c w)) below x.from goes)
+              | inl x ↦ absurd (fit.not_through (end_at m 0 (output c w)) below (x.from, goes))
               | inr (inl x) ↦ x.number ∙ ap (end_at c a) port ∙ ap (λ n. end_at c n (output c w)) (sym e) ∙ (net_gives_at c a m fit).back w h
               | inr (inr x) ↦ absurd (x.goes goes)
             ];
-            kept = λ from. fit.not_through (end_at m 0 (output c w)) below from goes;
+            kept = λ from. fit.not_through (end_at m 0 (output c w)) below (from, goes);
           }
 
   taken_by : (w : ℕ) → w < (spliced c a m).wires → AtNet c a receiver w ⊎ AtPart c a m receiver w
@@ -139,7 +148,7 @@ module _ (c : Circuit) (a : ℕ) (m : Circuit) (fit : Fitting c a m) where
             wire = end_at m 0 (input c w);
             below = below;
             number = at;
-            kept = λ goes. fit.not_through (end_at m 0 (input c w)) below from goes;
+            kept = λ goes. fit.not_through (end_at m 0 (input c w)) below (from, goes);
           }))
       | inr ne ↦ inl (record { known = h; kept = ne })
     ]
@@ -186,8 +195,8 @@ module _ (c : Circuit) (a : ℕ) (m : Circuit) (fit : Fitting c a m) where
         (λ k q h f. taken_part_once c a m fit (receiver m x.wire) (input m x.wire) x.kept g k q h (f ∙ sym e)),
       )
 
-  pub spliced_closed : ClosedByEnds (spliced c a m)
-  spliced_closed w l = (given_once w (given_by w l), taken_once w (taken_by w l))
+  pub spliced_closed : IsClosed (spliced c a m)
+  spliced_closed = closed_counts (spliced c a m) spliced_fits (λ w l. (given_once w (given_by w l), taken_once w (taken_by w l)))
 
   -- the driver and the receiver of a wire in the result
   driver_of : (w : ℕ) (x : AtNet c a driver w ⊎ AtPart c a m driver w) → driver (spliced c a m) w ≡ (given_once w x).0
@@ -213,10 +222,35 @@ module _ (c : Circuit) (a : ℕ) (m : Circuit) (fit : Fitting c a m) where
           apart (inr x) (inr y) f = part x.wire x.below (part_alone c a m fit (driver m x.wire) (receiver m y.wire) x.kept y.kept f
               ∙ ap (receiver m) (one_wire c a m fit y.wire x.wire y.below x.below (y.number ∙ sym x.number)))
 
+  component_other : ◌≢◌ {A = ℕ} 0 a
+  component_other e = let comp = fit.component in omega arith
+
+  -- the environment of the result is that of c
+  pub spliced_specified : (s : NodeSpec) → IsSpecified c s → IsSpecified (spliced c a m) s
+  spliced_specified s e = ap (λ k. spec_of (slice_get (spliced c a m).nodes k)) (sym (net_zero c a m fit))
+    ∙ ap spec_of (net_node c a m fit 0 component_other) ∙ e
+
   pub spliced_sound : Sound (fabric c) → Sound (fabric m) → Sound (fabric (spliced c a m))
   spliced_sound f g = joined_sound (fabric c) a (fabric m) 0 (fabric (spliced c a m)) (spliced_joins c a m fit) f g
 
-  pub spliced_exact : may_at (slice_get c.nodes a) [] → Sound (fabric c) → Sound (fabric m) → Exact (fabric c) → Exact (fabric m)
-      → Exact (fabric (spliced c a m))
+  pub spliced_exact : may_of (slice_get c.nodes a) [] → Sound (fabric c) → Sound (fabric m) → Exact (fabric c) → Exact (fabric m)
+    → Exact (fabric (spliced c a m))
   spliced_exact empty f g x y = joined_exact (fabric c) a (fabric m) (fabric (spliced c a m)) (spliced_joins c a m fit)
-      (joins_outside c a m fit) (λ e. let comp = fit.component in omega arith) empty f g x y
+    (joins_outside c a m fit) component_other empty f g x y
+
+  -- Sound for s with a network that is sound for a's specification in a's place is sound for s.
+  pub spliced_sound_for : (s t : NodeSpec) → SoundFor c s → SoundFor m t → SoundFor (spliced c a m) s
+  spliced_sound_for s t f g = record {
+    closed = spliced_closed;
+    specified = spliced_specified s f.specified;
+    sound = spliced_sound f.sound g.sound
+  }
+
+  -- And correct with correct is correct.
+  pub spliced_correct : (s t : NodeSpec) → may_of (slice_get c.nodes a) [] → Correct c s → Correct m t → Correct (spliced c a m) s
+  spliced_correct s t empty f g = record {
+    closed = spliced_closed;
+    specified = spliced_specified s f.specified;
+    sound = spliced_sound f.sound g.sound;
+    exact = spliced_exact empty f.sound g.sound f.exact g.exact
+  }

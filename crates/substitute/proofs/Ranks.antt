@@ -1,45 +1,7 @@
--- The least number that passes a test, whether there is one, and how many come before it.
-use Rattle.std.proofs.Common.{◌≡◌, ◌⊎◌, inl, inr, ℕ, zero, suc, ◌+◌, ◌-◌, ◌<◌, ◌≤◌, Bool, true, false, ◌||◌, refl, sym, ◌∙◌, subst, arith, if◌then◌else◌}
-use Rattle.std.proofs.lemmas.Bool.{cases_Bool, cases_eq, cases_order, false≢true, or_cases}
-use Rattle.substitute.specs.Ends.{pick, any}
+-- How many numbers before one pass a test.
+use Rattle.std.proofs.Common.{refl, ap, ◌∙◌, ◌≡◌, ◌⊎◌, inl, inr, ℕ, zero, suc, ◌+◌, ◌-◌, ◌<◌, ◌≤◌, Bool, true, false, sym, subst, arith, if◌then◌else◌}
+use Rattle.std.proofs.lemmas.Bool.{cases_Bool, cases_eq, cases_order}
 use Rattle.substitute.specs.Splice.{rank}
-
-pick_here : (f : ℕ → Bool) (n : ℕ) → f zero ≡ true → pick f (suc n) ≡ zero
-unfolding pick
-pick_here f n e = rw e refl
-
-pick_on : (f : ℕ → Bool) (n : ℕ) → f zero ≡ false → pick f (suc n) ≡ suc (pick (λ k. f (suc k)) n)
-unfolding pick
-pick_on f n e = rw e refl
-
-pub pick_found : (f : ℕ → Bool) (n k : ℕ) → k < n → f k ≡ true → (f (pick f n) ≡ true) × (pick f n < n)
-pick_found f zero k h e = absurd (omega arith)
-pick_found f (suc n) k h e = go k h e (cases_Bool (f zero)) (λ i l g. pick_found (λ x. f (suc x)) n i l g)
-  where
-    go : (i : ℕ) → i < suc n → f i ≡ true → (f zero ≡ true) ⊎ (f zero ≡ false)
-        → ((i : ℕ) → i < n → f (suc i) ≡ true → (f (suc (pick (λ x. f (suc x)) n)) ≡ true) × (pick (λ x. f (suc x)) n < n))
-        → (f (pick f (suc n)) ≡ true) × (pick f (suc n) < suc n)
-    go i l g (inl y) more = rw (pick_here f n y) (y, omega arith)
-    go zero l g (inr y) more = absurd (false≢true (sym y ∙ g))
-    go (suc i) l g (inr y) more = let (a, b) = more i (omega arith) g in rw (pick_on f n y) (a, omega arith)
-
-pub any_from : (f : ℕ → Bool) (n k : ℕ) → k < n → f k ≡ true → any f n ≡ true
-unfolding any
-any_from f zero k h e = absurd (omega arith)
-any_from f (suc n) zero h e = rw e refl
-any_from f (suc n) (suc k) h e = or_last (f zero) (any (λ i. f (suc i)) n) (any_from (λ i. f (suc i)) n k (omega arith) e)
-  where
-    or_last : (x y : Bool) → y ≡ true → (x || y) ≡ true
-    or_last true y g = refl
-    or_last false y g = g
-
-pub any_gives : (f : ℕ → Bool) (n : ℕ) → any f n ≡ true → (k : ℕ) × (k < n) × (f k ≡ true)
-unfolding any
-any_gives f zero e = absurd (false≢true e)
-any_gives f (suc n) e = elim (or_cases (f zero) (any (λ k. f (suc k)) n) e) [
-  | inl h ↦ (zero, omega arith, h)
-  | inr h ↦ (let (k, l, g) = any_gives (λ k. f (suc k)) n h in (suc k, omega arith, g))
-]
 
 rank_next : (f : ℕ → Bool) (n : ℕ) → f n ≡ true → rank f (suc n) ≡ suc (rank f n)
 unfolding rank
