@@ -52,14 +52,21 @@ met f a [] = record { ports = []; meets = ends; adds = λ s. sym (append-nil (s.
 met f a (Fire n p ∷ es) = met_fire f a n p es (met f a es) (cases_eq a n)
 met f a (Pass w ∷ es) = met_pass f a w es (met f a es) (cases_eq a (f.to w))
 
-grown : (may : ℕ → List ℕ → Type 0) (t : ℕ → List ℕ) (n p a : ℕ) → may a (t a) → may n (t n ++ p ∷ []) → may a (grow t n p a)
-grown may t n p a h g = elim (cases_eq a n) [
-  | inl e ↦ subst (may a) (sym (grow_same t n p a e)) (subst (λ m. may m (t m ++ p ∷ [])) (sym e) g)
-  | inr d ↦ subst (may a) (sym (grow_other t n p a d)) h
-]
+one_more : (may : ℕ → List ℕ → Type 0) (t : ℕ → List ℕ) (n p a : ℕ) → may n (t n ++ p ∷ []) → (grow t n p a ≡ t a) ⊎ may a (grow t n p a)
+one_more may t n p a g = elim (cases_eq a n) [
+    inl e ↦ inr (subst (may a) (sym (grow_same t n p a e)) (subst (λ m. may m (t m ++ p ∷ [])) (sym e) g))
+  | inr d ↦ inl (grow_other t n p a d) ]
 
--- A run keeps each node's trace among its traces.
-pub may_kept : (f : Fabric) (a : ℕ) (es : List Event) (s : State) → f.may a (s.trace a) → Run f s es → f.may a ((after_all f s es).trace a)
-may_kept f a [] s h run = h
-may_kept f a (Fire n p ∷ es) s h run = may_kept f a es (after f s (Fire n p)) (grown f.may s.trace n p a h run.0.1) run.2
-may_kept f a (Pass w ∷ es) s h run = may_kept f a es (after f s (Pass w)) (grown f.may s.trace (f.to w) (f.into w) a h run.1) run.2
+then_more : (P : List ℕ → Type 0) (t u v : List ℕ) → (u ≡ t) ⊎ P u → (v ≡ u) ⊎ P v → (v ≡ t) ⊎ P v
+then_more P t u v x (inr h) = inr h
+then_more P t u v (inl e) (inl f) = inl (f ∙ e)
+then_more P t u v (inr h) (inl f) = inr (subst P (sym f) h)
+
+-- A run leaves a node's trace as it was, or as one of its traces.
+pub may_met : (f : Fabric) (a : ℕ) (es : List Event) (s : State) → Run f s es
+  → ((after_all f s es).trace a ≡ s.trace a) ⊎ f.may a ((after_all f s es).trace a)
+may_met f a [] s run = inl refl
+may_met f a (Fire n p ∷ es) s run = then_more (f.may a) (s.trace a) (grow s.trace n p a) ((after_all f (after f s (Fire n p)) es).trace a)
+  (one_more f.may s.trace n p a run.0.1) (may_met f a es (after f s (Fire n p)) run.2)
+may_met f a (Pass w ∷ es) s run = then_more (f.may a) (s.trace a) (grow s.trace (f.to w) (f.into w) a) ((after_all f (after f s (Pass w)) es).trace a)
+  (one_more f.may s.trace (f.to w) (f.into w) a run.1) (may_met f a es (after f s (Pass w)) run.2)

@@ -1,9 +1,9 @@
 -- If both parts are moreover exact, so is the joined network: a run of A and a run of B that agree at the joint become one.
-use Rattle.std.proofs.Common.{◌≡◌, ◌≢◌, ℕ, List, [], ◌∷◌, ◌++◌, true, false, ◌||◌, Some, sym, refl, ap, ◌∙◌, subst, inl, inr}
+use Rattle.std.proofs.Common.{◌⊎◌, ◌≡◌, ◌≢◌, ℕ, List, [], ◌∷◌, ◌++◌, true, false, ◌||◌, Some, sym, refl, ap, ◌∙◌, subst, inl, inr}
 use Rattle.std.proofs.lemmas.Bool.{false≢true}
 use Rattle.net_core.specs.Runs.{Fabric, State, start, Event, Fire, Pass, after, after_all, Enabled, Fits, Run, Safe, Sound, Exact}
 use Rattle.net_core.proofs.Updates.{was_true, now_true}
-use Rattle.net_core.proofs.Meets.{Meets, ends, fires_away, passes_away, fires_here, passes_here, met, may_kept}
+use Rattle.net_core.proofs.Meets.{Meets, ends, fires_away, passes_away, fires_here, passes_here, met, may_met}
 use Rattle.substitute.proofs.Joins.{Joins, mirror}
 use Rattle.substitute.proofs.Follows.{hold, hold_at, split_swap, split_free_left, Follows, swap, back, fire, pass, over}
 use Rattle.substitute.proofs.JoinedSound.{joined_sound, follows_start}
@@ -198,20 +198,28 @@ module _ (A : Fabric) (a : ℕ) (B : Fabric) (b : ℕ) (R : Fabric) (k : Joins A
       (λ gs s' r' mb' rb' h'. merge i0 ne0 m t s' (after A l (Pass v)) r' gs mb' ra.2 rb' e h')
 
 -- The joined network is exact. B's node at the joint is its environment, and R's environment is A's.
-pub joined_exact : (A : Fabric) (a : ℕ) (B : Fabric) (R : Fabric) (k : Joins A a B 0 R) → k.i 0 ≡ 0 → ◌≢◌ {A = ℕ} 0 a → A.may a []
-    → Sound A → Sound B → Exact A → Exact B → Exact R
-joined_exact A a B R k i0 ne0 none sa sb ea eb t may =
-    let may_a : A.may 0 t = (k.left.may 0 ne0 t).0 (subst (λ n. R.may n t) (sym i0) may) in
-    let (es, ra, e) = ea t may_a in
-    let ma = met A a es in
-    let joint_trace : A.may a ma.ports = subst (A.may a) (ma.adds start) (may_kept A a es start none ra) in
-    let (fs, rb, f) = eb ma.ports ((k.same ma.ports).0 joint_trace) in
-    let mb = met B 0 fs in
-    let agree : mb.ports ≡ ma.ports = sym (mb.adds start) ∙ f in
-    let o = merge A a B 0 R k i0 ne0 ma.meets t start start start fs (subst (Meets B 0 fs) agree mb.meets) ra rb e (record {
+pub joined_exact : (A : Fabric) (a : ℕ) (B : Fabric) (R : Fabric) (k : Joins A a B 0 R) → k.i 0 ≡ 0 → ◌≢◌ {A = ℕ} 0 a
+  → Sound A → Sound B → Exact A → Exact B → Exact R
+joined_exact A a B R k i0 ne0 sa sb ea eb t may = (o.events, o.run, o.shown)
+  where
+    both : Both A a B 0 R k start start start
+    both = record {
       follows = follows_start A a B 0 R k;
       safe = joined_sound A a B 0 R k sa sb;
       here = λ v h. absurd (false≢true h);
-      there = λ u h. absurd (false≢true h);
-    }) in
-    (o.events, o.run, o.shown)
+      there = λ u h. absurd (false≢true h)
+    }
+    merged : (es : List Event) (ports : List ℕ) → Meets A a es ports → Run A start es → (after_all A start es).trace 0 ≡ t
+      → (ports ≡ []) ⊎ A.may a ports → Shows R start t
+    merged es ports ma ra e (inl none) =
+      merge A a B 0 R k i0 ne0 ma t start start start [] (subst (Meets B 0 []) (sym none) ends) ra tt e both
+    merged es ports ma ra e (inr h) =
+      let (fs, rb, f) = eb ports ((k.same ports).0 h) in
+      let mb = met B 0 fs in
+      let agree : mb.ports ≡ ports = sym (mb.adds start) ∙ f in
+      merge A a B 0 R k i0 ne0 ma t start start start fs (subst (Meets B 0 fs) agree mb.meets) ra rb e both
+    o : Shows R start t
+    o =
+      let (es, ra, e) = ea t ((k.left.may 0 ne0 t).0 (subst (λ n. R.may n t) (sym i0) may)) in
+      let ma = met A a es in
+      merged es ma.ports ma.meets ra e (subst (λ u. (u ≡ []) ⊎ A.may a u) (ma.adds start) (may_met A a es start ra))

@@ -233,10 +233,10 @@ module _ (c : Circuit) (a : ℕ) (m : Circuit) (fit : Fitting c a m) where
   pub spliced_sound : Sound (fabric c) → Sound (fabric m) → Sound (fabric (spliced c a m))
   spliced_sound f g = joined_sound (fabric c) a (fabric m) 0 (fabric (spliced c a m)) (spliced_joins c a m fit) f g
 
-  pub spliced_exact : may_of (slice_get c.nodes a) [] → Sound (fabric c) → Sound (fabric m) → Exact (fabric c) → Exact (fabric m)
+  pub spliced_exact : Sound (fabric c) → Sound (fabric m) → Exact (fabric c) → Exact (fabric m)
     → Exact (fabric (spliced c a m))
-  spliced_exact empty f g x y = joined_exact (fabric c) a (fabric m) (fabric (spliced c a m)) (spliced_joins c a m fit)
-    (joins_outside c a m fit) component_other empty f g x y
+  spliced_exact f g x y = joined_exact (fabric c) a (fabric m) (fabric (spliced c a m)) (spliced_joins c a m fit)
+    (joins_outside c a m fit) component_other f g x y
 
   -- Sound for s with a network that is sound for a's specification in a's place is sound for s.
   pub spliced_sound_for : (s t : NodeSpec) → SoundFor c s → SoundFor m t → SoundFor (spliced c a m) s
@@ -247,10 +247,10 @@ module _ (c : Circuit) (a : ℕ) (m : Circuit) (fit : Fitting c a m) where
   }
 
   -- And correct with correct is correct.
-  pub spliced_correct : (s t : NodeSpec) → may_of (slice_get c.nodes a) [] → Correct c s → Correct m t → Correct (spliced c a m) s
-  spliced_correct s t empty f g = record {
+  pub spliced_correct : (s t : NodeSpec) → Correct c s → Correct m t → Correct (spliced c a m) s
+  spliced_correct s t f g = record {
     closed = spliced_closed;
     specified = spliced_specified s f.specified;
     sound = spliced_sound f.sound g.sound;
-    exact = spliced_exact empty f.sound g.sound f.exact g.exact
+    exact = spliced_exact f.sound g.sound f.exact g.exact
   }
