@@ -1,5 +1,5 @@
 -- A network is closed where each wire has one output port and one input port: by counts, and by naming the ports.
-use Rattle.std.proofs.Common.{◌≡◌, ◌≢◌, ◌⊎◌, inl, inr, ℕ, zero, suc, pred, ◌+◌, ◌<◌, ◌≤◌, Bool, true, false, not, List, [], ◌∷◌, ◌++◌, map, length, get_or, Option, None, Some, refl, sym, ap, ◌∙◌, subst, arith, ne_eqb}
+use Rattle.std.proofs.Common.{◌≡◌, ◌≢◌, ◌⊎◌, inl, inr, ℕ, zero, suc, pred, ◌+◌, ◌<◌, ◌≤◌, Bool, true, false, not, List, [], ◌∷◌, map, length, get_or, Option, None, Some, refl, sym, ap, ◌∙◌, subst, arith, ne_eqb}
 use Rattle.std.specs.Prelude.{slice_get}
 use Rattle.std.specs.List.{AllByRecursion}
 use Rattle.std.proofs.lemmas.Bool.{cases_eq, false≢true}
@@ -37,13 +37,13 @@ record Beside (I J K : Type 0) (P : I → Type 0) (Q : J → Type 0) (S : K → 
   apart : (i : I) (j : J) → f i ≡ g j → ⊥
 
 has_sum : (I J K : Type 0) (P : I → Type 0) (Q : J → Type 0) (S : K → Type 0) (f : I → K) (g : J → K) → Beside I J K P Q S f g
-  → (m n : ℕ) → Has I P m → Has J Q n → Has K S (m + n)
+    → (m n : ℕ) → Has I P m → Has J Q n → Has K S (m + n)
 has_sum I J K P Q S f g b m n (none z h) (none y l) = none (omega arith) (λ k s. elim (b.either k s) [ inl (i, p, e) ↦ h i p | inr (j, q, e) ↦ l j q ])
 has_sum I J K P Q S f g b m n (none z h) (one y j q only) = one (omega arith) (g j) (b.from_right j q)
-  (λ k s. elim (b.either k s) [ inl (i, p, e) ↦ absurd (h i p) | inr (j', q', e) ↦ e ∙ ap g (only j' q') ])
+    (λ k s. elim (b.either k s) [ inl (i, p, e) ↦ absurd (h i p) | inr (j', q', e) ↦ e ∙ ap g (only j' q') ])
 has_sum I J K P Q S f g b m n (none z h) (many y j j' q q' ne) = many (omega arith) (g j) (g j') (b.from_right j q) (b.from_right j' q') (λ e. ne (b.one_right j j' e))
 has_sum I J K P Q S f g b m n (one z i p only) (none y l) = one (omega arith) (f i) (b.from_left i p)
-  (λ k s. elim (b.either k s) [ inl (i', p', e) ↦ e ∙ ap f (only i' p') | inr (j, q, e) ↦ absurd (l j q) ])
+    (λ k s. elim (b.either k s) [ inl (i', p', e) ↦ e ∙ ap f (only i' p') | inr (j, q, e) ↦ absurd (l j q) ])
 has_sum I J K P Q S f g b m n (one z i p only) (one y j q alone) = many (omega arith) (f i) (g j) (b.from_left i p) (b.from_right j q) (b.apart i j)
 has_sum I J K P Q S f g b m n (one z i p only) (many y j j' q q' ne) = many (omega arith) (g j) (g j') (b.from_right j q) (b.from_right j' q') (λ e. ne (b.one_right j j' e))
 has_sum I J K P Q S f g b m n (many z i i' p p' ne) h = many (omega arith) (f i) (f i') (b.from_left i p) (b.from_left i' p') (λ e. ne (b.one_left i i' e))
@@ -75,13 +75,14 @@ abbrev AtPort : Bool → ℕ → List Bool → List ℕ → ℕ → Type 0
 AtPort b w ds ws p = (side_of b ds p ≡ true) × (get_or ws p 0 ≡ w)
 
 has_more : (b d : Bool) (w v : ℕ) (ds : List Bool) (ws vs : List ℕ) → side_of b (d ∷ ds) 0 ≡ true
-  → Has ℕ (λ p. AtPort b w (d ∷ ds) (v ∷ ws) (suc p)) (count w vs) → Has ℕ (AtPort b w (d ∷ ds) (v ∷ ws)) (count w (v ∷ vs))
+    → Has ℕ (λ p. AtPort b w (d ∷ ds) (v ∷ ws) (suc p)) (count w vs) → Has ℕ (AtPort b w (d ∷ ds) (v ∷ ws)) (count w (v ∷ vs))
 has_more b d w v ds ws vs side h = elim (cases_eq w v) [
-    inl e ↦ subst (λ k. Has ℕ (AtPort b w (d ∷ ds) (v ∷ ws)) k)
+  | inl e ↦ subst (λ k. Has ℕ (AtPort b w (d ∷ ds) (v ∷ ws)) k)
       (sym (subst (λ x. count w (x ∷ vs) ≡ suc (count w vs)) e (count_same w vs)))
       (has_here (AtPort b w (d ∷ ds) (v ∷ ws)) (count w vs) (side, sym e) h)
   | inr ne ↦ subst (λ k. Has ℕ (AtPort b w (d ∷ ds) (v ∷ ws)) k) (sym (count_other w v vs ne))
-      (has_not_here (AtPort b w (d ∷ ds) (v ∷ ws)) (count w vs) (λ s. ne (sym s.1)) h) ]
+      (has_not_here (AtPort b w (d ∷ ds) (v ∷ ws)) (count w vs) (λ s. ne (sym s.1)) h)
+]
 
 none_there : (b : Bool) (p : ℕ) → side_of b [] p ≡ true → ⊥
 none_there true p h = false≢true h
@@ -94,9 +95,9 @@ has_ports b w [] ws e = none (count_nil w) (λ p s. none_there b p s.0)
 has_ports b w (d ∷ ds) [] e = absurd (omega arith)
 has_ports true w (true ∷ ds) (v ∷ ws) e = has_more true true w v ds ws (picked true ds ws) refl (has_ports true w ds ws (omega arith))
 has_ports true w (false ∷ ds) (v ∷ ws) e = has_not_here (AtPort true w (false ∷ ds) (v ∷ ws)) (count w (picked true ds ws))
-  (λ s. false≢true s.0) (has_ports true w ds ws (omega arith))
+    (λ s. false≢true s.0) (has_ports true w ds ws (omega arith))
 has_ports false w (true ∷ ds) (v ∷ ws) e = has_not_here (AtPort false w (true ∷ ds) (v ∷ ws)) (count w (picked false ds ws))
-  (λ s. false≢true s.0) (has_ports false w ds ws (omega arith))
+    (λ s. false≢true s.0) (has_ports false w ds ws (omega arith))
 has_ports false w (false ∷ ds) (v ∷ ws) e = has_more false false w v ds ws (picked false ds ws) refl (has_ports false w ds ws (omega arith))
 
 -- the directions of a component
@@ -112,24 +113,25 @@ has_ends : (b : Bool) (w k : ℕ) (xs : List Node) → AllByRecursion (Fits k) x
 unfolding flows
 has_ends b w k [] all = none (count_nil w) (λ i s. none_there b i.1 s.0)
 has_ends b w k (x ∷ xs) all =
-  let fits = all.0 in
-  subst (Has (ℕ × ℕ) (AtEnd b w (x ∷ xs))) (sym (count-append w (side b x) (flows b xs)))
+    let fits = all.0 in
+    subst (Has (ℕ × ℕ) (AtEnd b w (x ∷ xs))) (sym (count-append w (side b x) (flows b xs)))
     (has_sum ℕ (ℕ × ℕ) (ℕ × ℕ) (AtPort b w (outs_of x.spec) x.ends) (AtEnd b w xs) (AtEnd b w (x ∷ xs)) (λ p. (0, p)) (λ i. (suc i.0, i.1))
-      (record {
-        from_left = λ p s. s;
-        from_right = λ i s. s;
-        either = λ i s. at i.0 i.1 s;
-        one_left = λ p q e. ap (λ (i : ℕ × ℕ). i.1) e;
-        one_right = λ i j e. pair_suc i j e;
-        apart = λ p i e. (let z : 0 ≡ suc i.0 = ap (λ (i : ℕ × ℕ). i.0) e in omega arith)
-      })
-      (count w (side b x)) (count w (flows b xs)) (has_ports b w (outs_of x.spec) x.ends fits.sized) (has_ends b w k xs all.1))
+    (record {
+      from_left = λ p s. s;
+      from_right = λ i s. s;
+      either = λ i s. at i.0 i.1 s;
+      one_left = λ p q e. ap (λ (i : ℕ × ℕ). i.1) e;
+      one_right = λ i j e. pair_suc i j e;
+      apart = λ p i e. (let z : 0 ≡ suc i.0 = ap (λ (i : ℕ × ℕ). i.0) e in omega arith);
+    })
+    (count w (side b x)) (count w (flows b xs)) (has_ports b w (outs_of x.spec) x.ends fits.sized) (has_ends b w k xs all.1))
   where
     at : (n p : ℕ) → AtEnd b w (x ∷ xs) (n, p)
-      → ((q : ℕ) × AtPort b w (outs_of x.spec) x.ends q × (◌≡◌ {A = ℕ × ℕ} (n, p) (0, q)))
-      ⊎ ((i : ℕ × ℕ) × AtEnd b w xs i × (◌≡◌ {A = ℕ × ℕ} (n, p) (suc i.0, i.1)))
+        → ((q : ℕ) × AtPort b w (outs_of x.spec) x.ends q × (◌≡◌ {A = ℕ × ℕ} (n, p) (0, q)))
+        ⊎ ((i : ℕ × ℕ) × AtEnd b w xs i × (◌≡◌ {A = ℕ × ℕ} (n, p) (suc i.0, i.1)))
     at zero p s = inl (p, s, refl)
     at (suc n) p s = inr ((n, p), s, refl)
+
     pair_suc : (i j : ℕ × ℕ) → ◌≡◌ {A = ℕ × ℕ} (suc i.0, i.1) (suc j.0, j.1) → i ≡ j
     pair_suc i j e = ap (λ (k : ℕ × ℕ). (pred k.0, k.1)) e
 
@@ -159,30 +161,30 @@ has_all : (b : Bool) (w k : ℕ) (xs : List Node) → AllByRecursion (Fits k) xs
 unfolding wiring
 has_all b w k [] all = none (count_nil w) (λ i s. none_there b i.1 s.0)
 has_all b w k (x ∷ xs) all =
-  let fits = all.0 in
-  subst (Has (ℕ × ℕ) (AtWire b w (x ∷ xs))) (sym (count-append w (side (not b) x) (flows b xs)))
+    let fits = all.0 in
+    subst (Has (ℕ × ℕ) (AtWire b w (x ∷ xs))) (sym (count-append w (side (not b) x) (flows b xs)))
     (has_sum ℕ (ℕ × ℕ) (ℕ × ℕ) (AtPort (not b) w (outs_of x.spec) x.ends) (AtEnd b w xs) (AtWire b w (x ∷ xs)) (λ p. (0, p)) (λ i. (suc i.0, i.1))
-      (record {
-        from_left = λ p s. (exchanged b (outs_of x.spec) p ∙ s.0, s.1);
-        from_right = λ i s. (ap (λ ds. side_of b ds i.1) (own_directions (suc i.0) (slice_get xs i.0) (λ e. omega arith)) ∙ s.0, s.1);
-        either = λ i s. at i.0 i.1 s;
-        one_left = λ p q e. ap (λ (i : ℕ × ℕ). i.1) e;
-        one_right = λ i j e. ap (λ (k : ℕ × ℕ). (pred k.0, k.1)) e;
-        apart = λ p i e. (let z : 0 ≡ suc i.0 = ap (λ (i : ℕ × ℕ). i.0) e in omega arith)
-      })
-      (count w (side (not b) x)) (count w (flows b xs)) (has_ports (not b) w (outs_of x.spec) x.ends fits.sized) (has_ends b w k xs all.1))
+    (record {
+      from_left = λ p s. (exchanged b (outs_of x.spec) p ∙ s.0, s.1);
+      from_right = λ i s. (ap (λ ds. side_of b ds i.1) (own_directions (suc i.0) (slice_get xs i.0) (λ e. omega arith)) ∙ s.0, s.1);
+      either = λ i s. at i.0 i.1 s;
+      one_left = λ p q e. ap (λ (i : ℕ × ℕ). i.1) e;
+      one_right = λ i j e. ap (λ (k : ℕ × ℕ). (pred k.0, k.1)) e;
+      apart = λ p i e. (let z : 0 ≡ suc i.0 = ap (λ (i : ℕ × ℕ). i.0) e in omega arith);
+    })
+    (count w (side (not b) x)) (count w (flows b xs)) (has_ports (not b) w (outs_of x.spec) x.ends fits.sized) (has_ends b w k xs all.1))
   where
     at : (n p : ℕ) → AtWire b w (x ∷ xs) (n, p)
-      → ((q : ℕ) × AtPort (not b) w (outs_of x.spec) x.ends q × (◌≡◌ {A = ℕ × ℕ} (n, p) (0, q)))
-      ⊎ ((i : ℕ × ℕ) × AtEnd b w xs i × (◌≡◌ {A = ℕ × ℕ} (n, p) (suc i.0, i.1)))
+        → ((q : ℕ) × AtPort (not b) w (outs_of x.spec) x.ends q × (◌≡◌ {A = ℕ × ℕ} (n, p) (0, q)))
+        ⊎ ((i : ℕ × ℕ) × AtEnd b w xs i × (◌≡◌ {A = ℕ × ℕ} (n, p) (suc i.0, i.1)))
     at zero p s = inl (p, (sym (exchanged b (outs_of x.spec) p) ∙ s.0, s.1), refl)
     at (suc n) p s = inr ((n, p), (ap (λ ds. side_of b ds p) (sym (own_directions (suc n) (slice_get xs n) (λ e. omega arith))) ∙ s.0, s.1), refl)
 
 same_pair : (i j : ℕ × ℕ) → i.0 ≡ j.0 → i.1 ≡ j.1 → i ≡ j
 same_pair i j x y =
-  let first : ◌≡◌ {A = ℕ × ℕ} (i.0, i.1) (j.0, i.1) = ap (λ (k : ℕ). let z : ℕ × ℕ = (k, i.1) in z) x in
-  let second : ◌≡◌ {A = ℕ × ℕ} (j.0, i.1) (j.0, j.1) = ap (λ (k : ℕ). let z : ℕ × ℕ = (j.0, k) in z) y in
-  first ∙ second
+    let first : ◌≡◌ {A = ℕ × ℕ} (i.0, i.1) (j.0, i.1) = ap (λ (k : ℕ). let z : ℕ × ℕ = (k, i.1) in z) x in
+    let second : ◌≡◌ {A = ℕ × ℕ} (j.0, i.1) (j.0, j.1) = ap (λ (k : ℕ). let z : ℕ × ℕ = (j.0, k) in z) y in
+    first ∙ second
 
 module _ (c : Circuit) (fit : AllByRecursion (Fits c.wires) c.nodes) (w : ℕ) where
   once_from : (b : Bool) → count w (wiring b c.nodes) ≡ 1 → Once (λ n p. side_of b (directions c n) p) c w
@@ -190,9 +192,15 @@ module _ (c : Circuit) (fit : AllByRecursion (Fits c.wires) c.nodes) (w : ℕ) w
     where
       from : Has (ℕ × ℕ) (AtWire b w c.nodes) (count w (wiring b c.nodes)) → Once (λ n p. side_of b (directions c n) p) c w
       from (none z h) = absurd (omega arith)
-      from (one z i s only) = (i.0, i.1, s.0, s.1, (λ m q g at.
-        let same : ◌≡◌ {A = ℕ × ℕ} (m, q) i = only (m, q) (g, at) in
-        (ap (λ (j : ℕ × ℕ). j.0) same, ap (λ (j : ℕ × ℕ). j.1) same)))
+      from (one z i s only) = (
+        i.0,
+        i.1,
+        s.0,
+        s.1,
+        (λ m q g at.
+            let same : ◌≡◌ {A = ℕ × ℕ} (m, q) i = only (m, q) (g, at) in
+            (ap (λ (j : ℕ × ℕ). j.0) same, ap (λ (j : ℕ × ℕ). j.1) same)),
+      )
       from (many z i j s t ne) = absurd (omega arith)
 
   once_back : (b : Bool) → Once (λ n p. side_of b (directions c n) p) c w → count w (wiring b c.nodes) ≡ 1
@@ -202,9 +210,9 @@ module _ (c : Circuit) (fit : AllByRecursion (Fits c.wires) c.nodes) (w : ℕ) w
       from (none z h) = absurd (h (n, p) (g, e))
       from (one z i s alone) = z
       from (many z i j s t ne) =
-        let (x, y) = only i.0 i.1 s.0 s.1 in
-        let (u, v) = only j.0 j.1 t.0 t.1 in
-        absurd (ne (same_pair i j (x ∙ sym u) (y ∙ sym v)))
+          let (x, y) = only i.0 i.1 s.0 s.1 in
+          let (u, v) = only j.0 j.1 t.0 t.1 in
+          absurd (ne (same_pair i j (x ∙ sym u) (y ∙ sym v)))
 
 pub closed_ends : (c : Circuit) → AllByRecursion (Fits c.wires) c.nodes → IsClosed c → ClosedByEnds c
 closed_ends c fit closed w l = (once_from c fit w true (closed w l).0, once_from c fit w false (closed w l).1)

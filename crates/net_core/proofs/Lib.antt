@@ -16,3 +16,5 @@ pub mod Meets
 pub mod Renumbered
 pub mod ClosedByEnds
 pub mod Located
+pub mod Moved
+pub mod Reordered

@@ -54,8 +54,9 @@ met f a (Pass w ∷ es) = met_pass f a w es (met f a es) (cases_eq a (f.to w))
 
 one_more : (may : ℕ → List ℕ → Type 0) (t : ℕ → List ℕ) (n p a : ℕ) → may n (t n ++ p ∷ []) → (grow t n p a ≡ t a) ⊎ may a (grow t n p a)
 one_more may t n p a g = elim (cases_eq a n) [
-    inl e ↦ inr (subst (may a) (sym (grow_same t n p a e)) (subst (λ m. may m (t m ++ p ∷ [])) (sym e) g))
-  | inr d ↦ inl (grow_other t n p a d) ]
+  | inl e ↦ inr (subst (may a) (sym (grow_same t n p a e)) (subst (λ m. may m (t m ++ p ∷ [])) (sym e) g))
+  | inr d ↦ inl (grow_other t n p a d)
+]
 
 then_more : (P : List ℕ → Type 0) (t u v : List ℕ) → (u ≡ t) ⊎ P u → (v ≡ u) ⊎ P v → (v ≡ t) ⊎ P v
 then_more P t u v x (inr h) = inr h
@@ -64,9 +65,9 @@ then_more P t u v (inr h) (inl f) = inr (subst P (sym f) h)
 
 -- A run leaves a node's trace as it was, or as one of its traces.
 pub may_met : (f : Fabric) (a : ℕ) (es : List Event) (s : State) → Run f s es
-  → ((after_all f s es).trace a ≡ s.trace a) ⊎ f.may a ((after_all f s es).trace a)
+    → ((after_all f s es).trace a ≡ s.trace a) ⊎ f.may a ((after_all f s es).trace a)
 may_met f a [] s run = inl refl
 may_met f a (Fire n p ∷ es) s run = then_more (f.may a) (s.trace a) (grow s.trace n p a) ((after_all f (after f s (Fire n p)) es).trace a)
-  (one_more f.may s.trace n p a run.0.1) (may_met f a es (after f s (Fire n p)) run.2)
+    (one_more f.may s.trace n p a run.0.1) (may_met f a es (after f s (Fire n p)) run.2)
 may_met f a (Pass w ∷ es) s run = then_more (f.may a) (s.trace a) (grow s.trace (f.to w) (f.into w) a) ((after_all f (after f s (Pass w)) es).trace a)
-  (one_more f.may s.trace (f.to w) (f.into w) a run.1) (may_met f a es (after f s (Pass w)) run.2)
+    (one_more f.may s.trace (f.to w) (f.into w) a run.1) (may_met f a es (after f s (Pass w)) run.2)

@@ -1,8 +1,8 @@
 -- A network with other numbers for its nodes and its wires is sound where the first one is, and exact.
 use Rattle.std.proofs.Common.{◌≡◌, ◌↔◌, inl, inr, ℕ, List, [], ◌∷◌, ◌++◌, Bool, true, false, refl, sym, ap, ◌∙◌, subst}
-use Rattle.std.proofs.lemmas.Bool.{cases_eq}
+use Rattle.std.proofs.lemmas.Bool.{cases_eq, false≢true}
 use Rattle.net_core.specs.Runs.{Fabric, State, start, Event, Fire, Pass, Enabled, Fits, Run, Safe, Sound, Exact, after, after_all, grow, put}
-use Rattle.net_core.proofs.Updates.{grow_same, grow_other, put_same, put_other}
+use Rattle.net_core.proofs.Updates.{grow_same, grow_other, put_same, put_other, was_true, now_true}
 
 -- R is A with new numbers. Ports are unchanged, and node 0 stays node 0.
 pub record Renumbers (A R : Fabric) : Type 0 where
@@ -20,13 +20,15 @@ pub record Renumbers (A R : Fabric) : Type 0 where
   pub may : (n : ℕ) (t : List ℕ) → R.may (node n) t ↔ A.may n t
   pub fires : (n p : ℕ) → R.fires (node n) p ↔ A.fires n p
   pub drives : (n p : ℕ) → A.fires n p → R.wire (node n) p ≡ wire (A.wire n p)
-  pub to : (w : ℕ) → R.to (wire w) ≡ node (A.to w)
-  pub into : (w : ℕ) → R.into (wire w) ≡ A.into w
+  -- a driven wire leads where it led
+  pub to : (n p : ℕ) → A.fires n p → R.to (wire (A.wire n p)) ≡ node (A.to (A.wire n p))
+  pub into : (n p : ℕ) → A.fires n p → R.into (wire (A.wire n p)) ≡ A.into (A.wire n p)
 
--- A state of R is the state of A under the new numbers.
+-- A state of R is the state of A under the new numbers, and a busy wire is driven.
 record Matches (A R : Fabric) (k : Renumbers A R) (s r : State) : Type 0 where
   traces : (n : ℕ) → r.trace (k.node n) ≡ s.trace n
   lines : (w : ℕ) → r.busy (k.wire w) ≡ s.busy w
+  driven : (w : ℕ) → s.busy w ≡ true → (n : ℕ) × (p : ℕ) × A.fires n p × (A.wire n p ≡ w)
 
 -- an event under the new numbers, and under the old ones
 abbrev moved : (A R : Fabric) → Renumbers A R → Event → Event
@@ -66,14 +68,22 @@ module _ (A R : Fabric) (k : Renumbers A R) where
     | inr h ↦ put_other c y x (k.wire v) (λ g. h (same_wire v w (g ∙ e))) ∙ same v ∙ sym (put_other b w x v h)
   ]
 
+  to_new : (s r : State) → Matches A R k s r → (w : ℕ) → s.busy w ≡ true → R.to (k.wire w) ≡ k.node (A.to w)
+  to_new s r m w busy = let (n, p, out, e) = m.driven w busy in subst (λ v. R.to (k.wire v) ≡ k.node (A.to v)) e (k.to n p out)
+
+  into_new : (s r : State) → Matches A R k s r → (w : ℕ) → s.busy w ≡ true → R.into (k.wire w) ≡ A.into w
+  into_new s r m w busy = let (n, p, out, e) = m.driven w busy in subst (λ v. R.into (k.wire v) ≡ A.into v) e (k.into n p out)
+
   step : (s r : State) → Matches A R k s r → (e : Event) → Enabled A s e → Matches A R k (after A s e) (after R r (moved A R k e))
   step s r m (Fire n p) on = record {
     traces = grown s.trace r.trace n (k.node n) p p m.traces refl refl;
     lines = changed s.busy r.busy (A.wire n p) (R.wire (k.node n) p) true m.lines (k.drives n p on.0);
+    driven = λ v e. elim (now_true s.busy (A.wire n p) v e) [ inl at ↦ (n, p, on.0, sym at) | inr old ↦ m.driven v old ];
   }
   step s r m (Pass w) on = record {
-    traces = grown s.trace r.trace (A.to w) (R.to (k.wire w)) (A.into w) (R.into (k.wire w)) m.traces (k.to w) (k.into w);
+    traces = grown s.trace r.trace (A.to w) (R.to (k.wire w)) (A.into w) (R.into (k.wire w)) m.traces (to_new s r m w on) (into_new s r m w on);
     lines = changed s.busy r.busy w (k.wire w) false m.lines refl;
+    driven = λ v e. m.driven v (was_true s.busy w v e);
   }
 
   may_new : (s r : State) → Matches A R k s r → (n p : ℕ) → A.may n (s.trace n ++ p ∷ []) → R.may (k.node n) (r.trace (k.node n) ++ p ∷ [])
@@ -92,8 +102,8 @@ module _ (A R : Fabric) (k : Renumbers A R) where
 
   fits_new : (s r : State) → Matches A R k s r → (e : Event) → Enabled A s e → Fits A s e → Fits R r (moved A R k e)
   fits_new s r m (Fire n p) on fit = ap r.busy (k.drives n p on.0) ∙ m.lines (A.wire n p) ∙ fit
-  fits_new s r m (Pass w) on fit = subst (λ n. R.may n (r.trace n ++ R.into (k.wire w) ∷ [])) (sym (k.to w))
-      (subst (λ q. R.may (k.node (A.to w)) (r.trace (k.node (A.to w)) ++ q ∷ [])) (sym (k.into w)) (may_new s r m (A.to w) (A.into w) fit))
+  fits_new s r m (Pass w) on fit = subst (λ n. R.may n (r.trace n ++ R.into (k.wire w) ∷ [])) (sym (to_new s r m w on))
+      (subst (λ q. R.may (k.node (A.to w)) (r.trace (k.node (A.to w)) ++ q ∷ [])) (sym (into_new s r m w on)) (may_new s r m (A.to w) (A.into w) fit))
 
   safe_new : (es : List Event) (s r : State) → Matches A R k s r → Safe A s → Run R r es
       → (e : Event) → Enabled R (after_all R r es) e → Fits R (after_all R r es) e
@@ -122,7 +132,7 @@ module _ (A R : Fabric) (k : Renumbers A R) where
   trace_new (e ∷ es) s r m run n = trace_new es (after A s e) (after R r (moved A R k e)) (step s r m e run.0) run.2 n
 
   matches_start : Matches A R k start start
-  matches_start = record { traces = λ n. refl; lines = λ w. refl }
+  matches_start = record { traces = λ n. refl; lines = λ w. refl; driven = λ w e. absurd (false≢true e) }
 
   pub renumbered_sound : Sound A → Sound R
   renumbered_sound sound es run e on = safe_new es start start matches_start sound run e on

@@ -1,5 +1,5 @@
 -- The wires of a network and of its part in the spliced network.
-use Rattle.std.proofs.Common.{◌≡◌, ◌≢◌, ◌⊎◌, ◌↔◌, inl, inr, ℕ, zero, suc, ◌+◌, ◌<◌, ◌≤◌, Bool, true, false, not, map, List, [], ◌∷◌, length, Option, None, Some, refl, sym, ap, ◌∙◌, subst, arith, ◌==◌, if◌then◌else◌, ltb, lt-ltb, le-ltb, ne_eqb, eq-eqb}
+use Rattle.std.proofs.Common.{◌≡◌, ◌≢◌, ◌⊎◌, ◌↔◌, inl, inr, ℕ, zero, suc, ◌+◌, ◌<◌, ◌≤◌, Bool, true, false, not, map, List, [], ◌∷◌, Option, None, Some, refl, sym, ap, ◌∙◌, subst, arith, if◌then◌else◌, ltb, lt-ltb, le-ltb, ne_eqb, eq-eqb}
 use Rattle.std.specs.Prelude.{slice_get, nat_eq}
 use Rattle.std.proofs.lemmas.Bool.{cases_lt, cases_eq, cases_Bool, false≢true, eqb-true}
 use Rattle.std.proofs.lemmas.Option.{same_Some, none-some}
@@ -9,7 +9,7 @@ use Rattle.net_core.specs.Wiring.{Node, Circuit}
 use Rattle.net_core.specs.Networks.{directions_at, directions, gives, takes, end_at, may_of, spec_of}
 use Rattle.net_core.proofs.ClosedByEnds.{side_of, outs_at, exchanged, own_directions}
 use Rattle.net_core.proofs.Located.{Located, first_found, any_from, any_gives, gives_located, takes_located}
-use Rattle.substitute.specs.Splice.{driver, receiver, output, input, is_inner, rank, renumber, spliced, Fitting}
+use Rattle.substitute.specs.Splice.{driver, receiver, output, input, is_inner, rank, renumber, Fitting}
 use Rattle.substitute.proofs.Ranks.{rank_same}
 
 -- the wire of c that a wire of the result is
@@ -137,7 +137,7 @@ module _ (c : Circuit) (a : ℕ) (m : Circuit) (fit : Fitting c a m) where
 
   net_outs : directions c a ≡ outs_at (slice_get m.nodes 0)
   net_outs = let comp = fit.component in own_directions a (slice_get c.nodes a) (λ e. omega arith)
-    ∙ outs_by_spec (slice_get c.nodes a) (slice_get m.nodes 0) fit.same
+      ∙ outs_by_spec (slice_get c.nodes a) (slice_get m.nodes 0) fit.same
 
   part_side : (b : Bool) (p : ℕ) → side_of b (directions m 0) p ≡ side_of (not b) (outs_at (slice_get m.nodes 0)) p
   part_side b p = ap (λ ds. side_of b ds p) (outside_directions (slice_get m.nodes 0)) ∙ exchanged b (outs_at (slice_get m.nodes 0)) p

@@ -199,7 +199,7 @@ module _ (A : Fabric) (a : ℕ) (B : Fabric) (b : ℕ) (R : Fabric) (k : Joins A
 
 -- The joined network is exact. B's node at the joint is its environment, and R's environment is A's.
 pub joined_exact : (A : Fabric) (a : ℕ) (B : Fabric) (R : Fabric) (k : Joins A a B 0 R) → k.i 0 ≡ 0 → ◌≢◌ {A = ℕ} 0 a
-  → Sound A → Sound B → Exact A → Exact B → Exact R
+    → Sound A → Sound B → Exact A → Exact B → Exact R
 joined_exact A a B R k i0 ne0 sa sb ea eb t may = (o.events, o.run, o.shown)
   where
     both : Both A a B 0 R k start start start
@@ -207,19 +207,21 @@ joined_exact A a B R k i0 ne0 sa sb ea eb t may = (o.events, o.run, o.shown)
       follows = follows_start A a B 0 R k;
       safe = joined_sound A a B 0 R k sa sb;
       here = λ v h. absurd (false≢true h);
-      there = λ u h. absurd (false≢true h)
+      there = λ u h. absurd (false≢true h);
     }
+
     merged : (es : List Event) (ports : List ℕ) → Meets A a es ports → Run A start es → (after_all A start es).trace 0 ≡ t
-      → (ports ≡ []) ⊎ A.may a ports → Shows R start t
+        → (ports ≡ []) ⊎ A.may a ports → Shows R start t
     merged es ports ma ra e (inl none) =
-      merge A a B 0 R k i0 ne0 ma t start start start [] (subst (Meets B 0 []) (sym none) ends) ra tt e both
+        merge A a B 0 R k i0 ne0 ma t start start start [] (subst (Meets B 0 []) (sym none) ends) ra tt e both
     merged es ports ma ra e (inr h) =
-      let (fs, rb, f) = eb ports ((k.same ports).0 h) in
-      let mb = met B 0 fs in
-      let agree : mb.ports ≡ ports = sym (mb.adds start) ∙ f in
-      merge A a B 0 R k i0 ne0 ma t start start start fs (subst (Meets B 0 fs) agree mb.meets) ra rb e both
+        let (fs, rb, f) = eb ports ((k.same ports).0 h) in
+        let mb = met B 0 fs in
+        let agree : mb.ports ≡ ports = sym (mb.adds start) ∙ f in
+        merge A a B 0 R k i0 ne0 ma t start start start fs (subst (Meets B 0 fs) agree mb.meets) ra rb e both
+
     o : Shows R start t
     o =
-      let (es, ra, e) = ea t ((k.left.may 0 ne0 t).0 (subst (λ n. R.may n t) (sym i0) may)) in
-      let ma = met A a es in
-      merged es ma.ports ma.meets ra e (subst (λ u. (u ≡ []) ⊎ A.may a u) (ma.adds start) (may_met A a es start ra))
+        let (es, ra, e) = ea t ((k.left.may 0 ne0 t).0 (subst (λ n. R.may n t) (sym i0) may)) in
+        let ma = met A a es in
+        merged es ma.ports ma.meets ra e (subst (λ u. (u ≡ []) ⊎ A.may a u) (ma.adds start) (may_met A a es start ra))

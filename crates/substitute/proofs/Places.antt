@@ -1,12 +1,13 @@
 -- Where the nodes of a network and of its part stand in the spliced network.
-use Rattle.std.proofs.Common.{false, ◌≡◌, ◌≢◌, ◌⊎◌, ◌↔◌, inl, inr, ℕ, zero, suc, ◌+◌, ◌-◌, ◌*◌, ◌<◌, ◌≤◌, Bool, true, List, [], ◌∷◌, ◌++◌, length, map, take, drop, get_or, Option, None, Some, refl, sym, ap, ◌∙◌, subst, arith, ◌==◌, if◌then◌else◌, ltb, lt-ltb, le-ltb, ne_eqb, eq-eqb, length-drop, length-append}
+use Rattle.std.proofs.Common.{false, ◌≡◌, ◌≢◌, ◌⊎◌, ◌↔◌, inl, inr, ℕ, zero, suc, ◌+◌, ◌-◌, ◌*◌, ◌<◌, ◌≤◌, Bool, true, List, [], ◌∷◌, ◌++◌, length, map, take, drop, refl, sym, ap, ◌∙◌, subst, arith, if◌then◌else◌, ltb, lt-ltb, le-ltb, ne_eqb, eq-eqb, length-drop, length-append}
 use Rattle.std.specs.Prelude.{slice_get, option_map, nat_eq}
 use Rattle.std.proofs.lemmas.Bool.{cases_lt, cases_eq}
 use Rattle.std.proofs.lemmas.Option.{slice_get-map, slice_get_past}
-use Rattle.std.proofs.lemmas.List.{get_or-map}
-use Rattle.substitute.specs.Splice.{moved, renumber, spliced, Fitting}
-use Rattle.net_core.specs.Wiring.{Node, Circuit, Fits}
+use Rattle.std.proofs.lemmas.List.{length-map}
+use Rattle.substitute.specs.Splice.{renumber, spliced, Fitting}
+use Rattle.net_core.specs.Wiring.{Node, Circuit, Fits, moved}
 use Rattle.net_core.specs.Networks.{directions_at, directions, gives, takes, end_of, end_at, may_of}
+use Rattle.net_core.proofs.Moved.{directions_same, directions_moved, may_moved, end_moved}
 use Rattle.net_core.proofs.ClosedByEnds.{side_of}
 use Rattle.net_core.proofs.Located.{port_within, all_nodes}
 
@@ -37,10 +38,6 @@ length_take zero xs h = refl
 length_take (suc k) [] h = absurd (omega arith)
 length_take (suc k) (x ∷ xs) h = ap suc (length_take k xs (omega arith))
 
-pub length_map : {X Y : Type 0} (f : X → Y) (xs : List X) → length (map f xs) ≡ length xs
-length_map f [] = refl
-length_map f (x ∷ xs) = ap suc (length_map f xs)
-
 -- The number of c's node n in the result. Numbers past the end go past its end, apart from those of the part.
 pub net_place : Circuit → ℕ → Circuit → ℕ → ℕ
 net_place c a m n = if ltb n a then n
@@ -51,21 +48,6 @@ net_place c a m n = if ltb n a then n
 pub part_place : Circuit → ℕ → Circuit → ℕ → ℕ
 part_place c a m n = if ltb n (length m.nodes) then (a + n) - 1
     else ((length c.nodes + 2 * n) - length m.nodes) - 1
-
-directions_same : (k n : ℕ) (o : Option Node) → nat_eq k 0 ≡ nat_eq n 0 → directions_at k o ≡ directions_at n o
-directions_same k n None e = refl
-directions_same k n (Some x) e = rw e refl
-
-directions_moved : (f : ℕ → ℕ) (k n : ℕ) (o : Option Node) → nat_eq k 0 ≡ nat_eq n 0 → directions_at k (option_map (moved f) o) ≡ directions_at n o
-directions_moved f k n None e = refl
-directions_moved f k n (Some x) e = rw e refl
-
-may_moved : (f : ℕ → ℕ) (o : Option Node) (t : List ℕ) → may_of (option_map (moved f) o) t ≡ may_of o t
-may_moved f None t = refl
-may_moved f (Some x) t = refl
-
-pub end_moved : (f : ℕ → ℕ) (xs : List ℕ) (p : ℕ) → p < length xs → get_or (map f xs) p 0 ≡ f (get_or xs p 0)
-end_moved f xs p h = get_or-map f xs p 0 0 h
 
 -- m's components in the result
 abbrev middle : Circuit → ℕ → Circuit → List Node
@@ -121,7 +103,7 @@ module _ (c : Circuit) (a : ℕ) (m : Circuit) (fit : Fitting c a m) where
   front_length = length_take a c.nodes (let ins = fit.inside in omega arith)
 
   middle_length : length (map (moved (renumber c a m)) (drop 1 m.nodes)) + 1 ≡ length m.nodes
-  middle_length = let g = length_map (moved (renumber c a m)) (drop 1 m.nodes) in let d = length-drop 1 m.nodes in
+  middle_length = let g = length-map (drop 1 m.nodes) (moved (renumber c a m)) in let d = length-drop 1 m.nodes in
       let some = fit.some in omega arith
 
   pub spliced_length : length (spliced c a m).nodes + 2 ≡ length c.nodes + length m.nodes
@@ -172,9 +154,10 @@ module _ (c : Circuit) (a : ℕ) (m : Circuit) (fit : Fitting c a m) where
 
   net_test : (n : ℕ) → n ≢ a → nat_eq (net_place c a m n) 0 ≡ nat_eq n 0
   net_test n ne = elim (cases_eq n 0) [
-      inl e ↦ eq-eqb (net_place c a m n) 0 (ap (net_place c a m) e ∙ net_zero) ∙ sym (eq-eqb n 0 e)
+    | inl e ↦ eq-eqb (net_place c a m n) 0 (ap (net_place c a m) e ∙ net_zero) ∙ sym (eq-eqb n 0 e)
     | inr h ↦ ne_eqb (net_place c a m n) 0 (λ e. let x = net_cases n in let some = fit.some in let comp = fit.component in let ins = fit.inside in
-        h (omega arith)) ∙ sym (ne_eqb n 0 h) ]
+        h (omega arith)) ∙ sym (ne_eqb n 0 h)
+  ]
 
   part_test : (n : ℕ) → ◌≢◌ {A = ℕ} n 0 → nat_eq (part_place c a m n) 0 ≡ nat_eq n 0
   part_test n h = ne_eqb (part_place c a m n) 0 (part_above n h) ∙ sym (ne_eqb n 0 h)
@@ -184,7 +167,7 @@ module _ (c : Circuit) (a : ℕ) (m : Circuit) (fit : Fitting c a m) where
 
   part_directions : (n : ℕ) → ◌≢◌ {A = ℕ} n 0 → directions (spliced c a m) (part_place c a m n) ≡ directions m n
   part_directions n h = ap (directions_at (part_place c a m n)) (part_node n h)
-    ∙ directions_moved (renumber c a m) (part_place c a m n) n (slice_get m.nodes n) (part_test n h)
+      ∙ directions_moved (renumber c a m) (part_place c a m n) n (slice_get m.nodes n) (part_test n h)
 
   pub net_gives : (n p : ℕ) → n ≢ a → gives (spliced c a m) (net_place c a m n) p ≡ gives c n p
   net_gives n p ne = ap (λ ds. side_of true ds p) (net_directions n ne)
@@ -202,12 +185,12 @@ module _ (c : Circuit) (a : ℕ) (m : Circuit) (fit : Fitting c a m) where
   part_takes n p h = ap (λ ds. side_of false ds p) (part_directions n h)
 
   pub part_end : (b : Bool) (n p : ℕ) → ◌≢◌ {A = ℕ} n 0 → side_of b (directions m n) p ≡ true
-    → end_at (spliced c a m) (part_place c a m n) p ≡ renumber c a m (end_at m n p)
+      → end_at (spliced c a m) (part_place c a m n) p ≡ renumber c a m (end_at m n p)
   part_end b n p h side =
-    let (x, e, l) = port_within b m.nodes n p (slice_get m.nodes n) refl side in
-    let fits = all_nodes (Fits m.wires) m.nodes n x fit.fit_part e in
-    let sized = fits.sized in
-    ap (λ o. end_of o p) (part_node n h) ∙ ap (λ o. end_of (option_map (moved (renumber c a m)) o) p) e
+      let (x, e, l) = port_within b m.nodes n p (slice_get m.nodes n) refl side in
+      let fits = all_nodes (Fits m.wires) m.nodes n x fit.fit_part e in
+      let sized = fits.sized in
+      ap (λ o. end_of o p) (part_node n h) ∙ ap (λ o. end_of (option_map (moved (renumber c a m)) o) p) e
       ∙ end_moved (renumber c a m) x.ends p (omega arith) ∙ ap (λ o. renumber c a m (end_of o p)) (sym e)
 
   pub net_may : (n : ℕ) → n ≢ a → (t : List ℕ) → may_of (slice_get (spliced c a m).nodes (net_place c a m n)) t ↔ may_of (slice_get c.nodes n) t

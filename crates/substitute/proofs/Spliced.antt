@@ -1,8 +1,8 @@
 -- The spliced network is its two parts joined at the node that was replaced.
-use Rattle.std.proofs.Common.{false, ◌≡◌, ◌≢◌, ◌⊎◌, inl, inr, ℕ, ◌<◌, ◌≤◌, Bool, true, not, Some, refl, sym, ap, ◌∙◌, arith, ◌==◌}
+use Rattle.std.proofs.Common.{false, ◌≡◌, ◌≢◌, ◌⊎◌, inl, inr, ℕ, ◌<◌, ◌≤◌, Bool, true, Some, refl, sym, ap, ◌∙◌, arith}
 use Rattle.net_core.specs.Wiring.{Circuit}
-use Rattle.net_core.specs.Networks.{directions, gives, takes, end_at, may_of, fabric}
-use Rattle.net_core.proofs.Located.{Located, found_only, gives_real, takes_real}
+use Rattle.net_core.specs.Networks.{gives, takes, end_at, fabric}
+use Rattle.net_core.proofs.Located.{found_only, gives_real, takes_real}
 use Rattle.substitute.specs.Splice.{driver, receiver, output, input, renumber, spliced, Fitting}
 use Rattle.substitute.proofs.Joins.{Half, Joins}
 use Rattle.substitute.proofs.Places.{net_place, part_place, net_alone, part_alone, places_apart, net_zero, decode, spliced_length, net_gives, net_takes, net_end, part_gives, part_takes, part_end, net_may, part_may}

@@ -1,19 +1,20 @@
 -- The spliced network is closed, and clean, sound and exact where its parts are.
-use Rattle.std.proofs.Common.{zero, suc, ◌∷◌, ◌≡◌, ◌≢◌, ◌⊎◌, inl, inr, ℕ, ◌+◌, ◌-◌, ◌<◌, ◌≤◌, true, not, List, [], length, map, get_or, Option, None, Some, All, refl, sym, ap, ◌∙◌, subst, arith, ◌==◌}
+use Rattle.std.proofs.Common.{◌∷◌, ◌≡◌, ◌≢◌, ◌⊎◌, inl, inr, ℕ, ◌+◌, ◌-◌, ◌<◌, ◌≤◌, true, not, List, [], length, Option, None, Some, refl, sym, ap, ◌∙◌, subst, arith}
 use Rattle.std.specs.Prelude.{slice_get, option_map, nat_eq}
 use Rattle.std.proofs.lemmas.Bool.{cases_eq, cases_lt, false≢true, and_parts, not-true, eq-eqb}
-use Rattle.std.proofs.lemmas.Option.{slice_get_within, get_or_from_slice_get, same_Some, none-some}
+use Rattle.std.proofs.lemmas.Option.{slice_get_within, same_Some, none-some}
+use Rattle.std.proofs.lemmas.List.{length-map}
 use Rattle.std.specs.List.{AllByRecursion}
 use Rattle.net_core.specs.Runs.{Sound, Exact}
-use Rattle.net_core.specs.Specs.{IsFormed}
-use Rattle.net_core.specs.Wiring.{Node, Circuit, Fits, IsClosed}
-use Rattle.net_core.specs.Networks.{gives, takes, end_at, may_of, spec_of, fabric, IsSpecified, SoundFor, Correct, IsClean}
+use Rattle.net_core.specs.Wiring.{Node, Circuit, Fits, IsClosed, moved}
+use Rattle.net_core.specs.Networks.{gives, takes, end_at, spec_of, fabric, IsSpecified, SoundFor, Correct, IsClean}
 use Rattle.net_core.specs.declared.spec.NodeSpec.{NodeSpec}
+use Rattle.net_core.proofs.Moved.{all_from, all_moved}
 use Rattle.net_core.proofs.ClosedByEnds.{Once, closed_counts}
-use Rattle.net_core.proofs.Located.{Located, found_only, gives_real, takes_real, all_nodes}
-use Rattle.substitute.specs.Splice.{driver, receiver, output, input, is_inner, rank, renumber, moved, spliced, Fitting}
+use Rattle.net_core.proofs.Located.{found_only, gives_real, takes_real, all_nodes}
+use Rattle.substitute.specs.Splice.{driver, receiver, output, input, is_inner, rank, renumber, spliced, Fitting}
 use Rattle.substitute.proofs.Ranks.{rank_below, rank_onto}
-use Rattle.substitute.proofs.Places.{net_zero, net_place, part_place, net_alone, part_alone, places_apart, decode, spliced_length, net_node, part_node, net_gives, net_takes, net_end, part_gives, part_takes, length_map, end_moved}
+use Rattle.substitute.proofs.Places.{net_zero, net_place, part_place, net_alone, part_alone, places_apart, decode, spliced_length, net_node, part_node, net_gives, net_takes, net_end, part_gives, part_takes}
 use Rattle.substitute.proofs.Fused.{number_third, net_gives_at, net_takes_at, part_gives_at, part_takes_at, given_there, kind, entering_known, leaving_known, one_wire}
 use Rattle.substitute.proofs.Spliced.{part_end_given, part_end_taken, given_net_once, given_part_once, taken_net_once, taken_part_once, goes_on, spliced_joins, joins_outside}
 use Rattle.substitute.proofs.JoinedSound.{joined_sound}
@@ -43,18 +44,9 @@ spliced_wires : (c : Circuit) (a : ℕ) (m : Circuit) → (spliced c a m).wires 
 unfolding spliced
 spliced_wires c a m = refl
 
-all_moved : (f : ℕ → ℕ) (xs : List ℕ) (j k : ℕ) → ((w : ℕ) → w < j → f w < k) → AllByRecursion (λ w. w < j) xs
-  → AllByRecursion (λ w. w < k) (map f xs)
-all_moved f [] j k h all = tt
-all_moved f (x ∷ xs) j k h all = (h x all.0, all_moved f xs j k h all.1)
-
 all_more : (xs : List ℕ) (j k : ℕ) → j ≤ k → AllByRecursion (λ w. w < j) xs → AllByRecursion (λ w. w < k) xs
 all_more [] j k h all = tt
 all_more (x ∷ xs) j k h all = let l = all.0 in (omega arith, all_more xs j k h all.1)
-
-all_from : (P : Node → Type 0) (xs : List Node) → ((k : ℕ) (x : Node) → slice_get xs k ≡ Some x → P x) → AllByRecursion P xs
-all_from P [] h = tt
-all_from P (x ∷ xs) h = (h 0 x refl, all_from P xs (λ k y e. h (suc k) y e))
 
 module _ (c : Circuit) (a : ℕ) (m : Circuit) (fit : Fitting c a m) where
   pub number_known : (u : ℕ) → u < m.wires → renumber c a m u < (spliced c a m).wires
@@ -66,34 +58,35 @@ module _ (c : Circuit) (a : ℕ) (m : Circuit) (fit : Fitting c a m) where
 
   fits_net : (n : ℕ) (x : Node) → slice_get c.nodes n ≡ Some x → Fits (spliced c a m).wires x
   fits_net n x e =
-    let fits = all_nodes (Fits c.wires) c.nodes n x fit.fit_net e in
-    record {
-      sized = fits.sized;
-      known = all_more x.ends c.wires (spliced c a m).wires (let wires = spliced_wires c a m in omega arith) fits.known;
-      formed = fits.formed
-    }
+      let fits = all_nodes (Fits c.wires) c.nodes n x fit.fit_net e in
+      record {
+        sized = fits.sized;
+        known = all_more x.ends c.wires (spliced c a m).wires (let wires = spliced_wires c a m in omega arith) fits.known;
+        formed = fits.formed;
+      }
 
   fits_part : (n : ℕ) (x : Node) → slice_get m.nodes n ≡ Some x → Fits (spliced c a m).wires (moved (renumber c a m) x)
   fits_part n x e =
-    let fits = all_nodes (Fits m.wires) m.nodes n x fit.fit_part e in
-    record {
-      sized = length_map (renumber c a m) x.ends ∙ fits.sized;
-      known = all_moved (renumber c a m) x.ends m.wires (spliced c a m).wires (λ w l. number_known w l) fits.known;
-      formed = fits.formed
-    }
+      let fits = all_nodes (Fits m.wires) m.nodes n x fit.fit_part e in
+      record {
+        sized = length-map x.ends (renumber c a m) ∙ fits.sized;
+        known = all_moved (renumber c a m) x.ends m.wires (spliced c a m).wires (λ w l. number_known w l) fits.known;
+        formed = fits.formed;
+      }
 
   fits_moved : (n : ℕ) (o : Option Node) → slice_get m.nodes n ≡ o → (y : Node) → option_map (moved (renumber c a m)) o ≡ Some y
-    → Fits (spliced c a m).wires y
+      → Fits (spliced c a m).wires y
   fits_moved n None e y h = absurd (none-some y h)
   fits_moved n (Some x) e y h = subst (Fits (spliced c a m).wires) (same_Some (moved (renumber c a m) x) y h) (fits_part n x e)
 
   fits_at : (k : ℕ) (y : Node) → slice_get (spliced c a m).nodes k ≡ Some y → Fits (spliced c a m).wires y
   fits_at k y e =
-    let l = slice_get_within (spliced c a m).nodes k y e in let s = spliced_length c a m fit in
-    elim (decode c a m fit k (omega arith)) [
-        inl (n, ne, at) ↦ fits_net n y (sym (net_node c a m fit n ne) ∙ ap (slice_get (spliced c a m).nodes) (sym at) ∙ e)
-      | inr (n, h, at) ↦ fits_moved n (slice_get m.nodes n) refl y
-          (sym (part_node c a m fit n h) ∙ ap (slice_get (spliced c a m).nodes) (sym at) ∙ e) ]
+      let l = slice_get_within (spliced c a m).nodes k y e in let s = spliced_length c a m fit in
+      elim (decode c a m fit k (omega arith)) [
+        | inl (n, ne, at) ↦ fits_net n y (sym (net_node c a m fit n ne) ∙ ap (slice_get (spliced c a m).nodes) (sym at) ∙ e)
+        | inr (n, h, at) ↦ fits_moved n (slice_get m.nodes n) refl y
+            (sym (part_node c a m fit n h) ∙ ap (slice_get (spliced c a m).nodes) (sym at) ∙ e)
+      ]
 
   -- each node of the result has its wires
   pub spliced_fits : AllByRecursion (Fits (spliced c a m).wires) (spliced c a m).nodes
@@ -228,22 +221,22 @@ module _ (c : Circuit) (a : ℕ) (m : Circuit) (fit : Fitting c a m) where
   -- the environment of the result is that of c
   pub spliced_specified : (s : NodeSpec) → IsSpecified c s → IsSpecified (spliced c a m) s
   spliced_specified s e = ap (λ k. spec_of (slice_get (spliced c a m).nodes k)) (sym (net_zero c a m fit))
-    ∙ ap spec_of (net_node c a m fit 0 component_other) ∙ e
+      ∙ ap spec_of (net_node c a m fit 0 component_other) ∙ e
 
   pub spliced_sound : Sound (fabric c) → Sound (fabric m) → Sound (fabric (spliced c a m))
   spliced_sound f g = joined_sound (fabric c) a (fabric m) 0 (fabric (spliced c a m)) (spliced_joins c a m fit) f g
 
   pub spliced_exact : Sound (fabric c) → Sound (fabric m) → Exact (fabric c) → Exact (fabric m)
-    → Exact (fabric (spliced c a m))
+      → Exact (fabric (spliced c a m))
   spliced_exact f g x y = joined_exact (fabric c) a (fabric m) (fabric (spliced c a m)) (spliced_joins c a m fit)
-    (joins_outside c a m fit) component_other f g x y
+      (joins_outside c a m fit) component_other f g x y
 
   -- Sound for s with a network that is sound for a's specification in a's place is sound for s.
   pub spliced_sound_for : (s t : NodeSpec) → SoundFor c s → SoundFor m t → SoundFor (spliced c a m) s
   spliced_sound_for s t f g = record {
     closed = spliced_closed;
     specified = spliced_specified s f.specified;
-    sound = spliced_sound f.sound g.sound
+    sound = spliced_sound f.sound g.sound;
   }
 
   -- And correct with correct is correct.
@@ -252,5 +245,5 @@ module _ (c : Circuit) (a : ℕ) (m : Circuit) (fit : Fitting c a m) where
     closed = spliced_closed;
     specified = spliced_specified s f.specified;
     sound = spliced_sound f.sound g.sound;
-    exact = spliced_exact f.sound g.sound f.exact g.exact
+    exact = spliced_exact f.sound g.sound f.exact g.exact;
   }

@@ -1,7 +1,7 @@
 -- A network in the place of one node of another.
-use Rattle.std.specs.Prelude.{◌≡◌, ℕ, zero, suc, ◌+◌, ◌<◌, Bool, not, ◌&&◌, List, length, map, take, drop, ◌++◌, slice_get, nat_eq, if◌then◌else◌}
+use Rattle.std.specs.Prelude.{◌≡◌, ℕ, zero, suc, ◌+◌, ◌<◌, Bool, not, ◌&&◌, length, map, take, drop, ◌++◌, slice_get, nat_eq, if◌then◌else◌}
 use Rattle.std.specs.List.{AllByRecursion}
-use Rattle.net_core.specs.Wiring.{Node, Circuit, Fits, IsClosed}
+use Rattle.net_core.specs.Wiring.{Circuit, Fits, IsClosed, moved}
 use Rattle.net_core.specs.Networks.{gives, takes, end_at, end_node, end_port, spec_of, IsThrough}
 
 -- the node and the port that drive a wire, and those that receive it
@@ -30,19 +30,15 @@ rank f (suc n) = if f n then suc (rank f n) else rank f n
 -- fused with c's wire at the same port, and the inner wires come after c's wires in their order.
 unfoldable pub renumber : Circuit → ℕ → Circuit → ℕ → ℕ
 renumber c a m w =
-  if nat_eq (driver m w) 0 then end_at c a (output m w)
-  else if nat_eq (receiver m w) 0 then end_at c a (input m w)
-  else c.wires + rank (is_inner m) w
-
--- a node with other numbers for its wires
-abbrev pub moved : (ℕ → ℕ) → Node → Node
-moved f x = record { spec = x.spec; ends = map f x.ends }
+    if nat_eq (driver m w) 0 then end_at c a (output m w)
+    else if nat_eq (receiver m w) 0 then end_at c a (input m w)
+    else c.wires + rank (is_inner m) w
 
 -- c with the components of m in the place of its node a, in their order
 unfoldable pub spliced : Circuit → ℕ → Circuit → Circuit
 spliced c a m = record {
   nodes = take a c.nodes ++ (map (moved (renumber c a m)) (drop 1 m.nodes) ++ drop (suc a) c.nodes);
-  wires = c.wires + rank (is_inner m) m.wires
+  wires = c.wires + rank (is_inner m) m.wires;
 }
 
 -- m may take the place of c's node a.

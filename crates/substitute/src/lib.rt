@@ -16,5 +16,4 @@ pub fn splice_law()
     ensures clean { (c m : Circuit) (a : ℕ) → Fitting c a m → IsClean c → IsClean m → IsClean (spliced c a m) }
     ensures sound { (c m : Circuit) (a : ℕ) (s t : NodeSpec) → Fitting c a m → SoundFor c s → SoundFor m t → SoundFor (spliced c a m) s }
     ensures correct { (c m : Circuit) (a : ℕ) (s t : NodeSpec) → Fitting c a m → Correct c s → Correct m t → Correct (spliced c a m) s }
-{
-}
+{}
