@@ -10,7 +10,7 @@ use Rattle.net_core.specs.declared.spec.NodeSpec.TheVariants.{Kind as Basic, Cmd
 use Rattle.net_core.specs.Specs.{sides, outs_of, IsFormed, May}
 use Rattle.net_core.specs.Wiring.{Fits, IsClosed}
 use Rattle.net_core.specs.Networks.{IsBasic, IsClean, Correct}
-use Rattle.net_core.proofs.RoundsRule.{Rounds}
+use Rattle.cmd_tree.specs.Rounds.{Rounds}
 use Rattle.di_top.specs.FormText.{IsFormCommand}
 use Rattle.di_top.specs.FormNets.{one_net, form_net}
 use Rattle.di_top.proofs.FormPorts.{form_outs}

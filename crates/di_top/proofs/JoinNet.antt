@@ -12,7 +12,7 @@ use Rattle.net_core.specs.Specs.{sides, outs_of, IsFormed, May}
 use Rattle.net_core.specs.Wiring.{Circuit, Fits, IsClosed, count, picked, flows, wiring}
 use Rattle.net_core.specs.Networks.{directions, gives, takes, end_node, fabric}
 use Rattle.net_core.proofs.Counting.{count_nil, count_same, count_other, count-append}
-use Rattle.net_core.proofs.RoundsRule.{Rounds}
+use Rattle.cmd_tree.specs.Rounds.{Rounds}
 use Rattle.net_core.proofs.RoundsNets.{JoinSpread, join_spread_sound, join_spread_exact}
 use Rattle.net_core.proofs.Found.{Located, gives_located, takes_located, node_of_wire, port_of_wire}
 use Rattle.di_top.specs.FormNets.{join_net}

@@ -13,7 +13,7 @@ use Rattle.net_core.specs.Specs.{sides, outs_of, IsFormed, May}
 use Rattle.net_core.specs.Wiring.{Circuit, Fits, IsClosed, count, picked, flows, wiring}
 use Rattle.net_core.specs.Networks.{directions, gives, takes, end_node, fabric, IsBasic, IsClean, Correct}
 use Rattle.net_core.proofs.Counting.{count_nil, count-append}
-use Rattle.net_core.proofs.RoundsRule.{Rounds}
+use Rattle.cmd_tree.specs.Rounds.{Rounds}
 use Rattle.net_core.proofs.RoundsNets.{OneRounds, one_rounds_sound, one_rounds_exact}
 use Rattle.net_core.proofs.Found.{Located, gives_located, takes_located, node_of_wire, port_of_wire}
 use Rattle.di_top.specs.FormNets.{one_net}

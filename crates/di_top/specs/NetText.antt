@@ -1,5 +1,5 @@
 -- The text of a netlist.
-use Rattle.std.specs.Prelude.{ℕ, Bool, true, false, ◌+◌, suc, List, [], ◌∷◌, ◌++◌, take, drop, codes, decimal, flat_map}
+use Rattle.std.specs.Prelude.{ℕ, Bool, true, false, ◌+◌, List, [], ◌∷◌, ◌++◌, take, drop, codes, decimal}
 use Rattle.cmd_tree.specs.declared.command.Command.{Command}
 use Rattle.cmd_tree.specs.Limits.{marks_of_all}
 use Rattle.cmd_text.specs.Canonical.{procs_text}

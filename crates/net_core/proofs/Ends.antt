@@ -1,5 +1,5 @@
 -- How often a wire stands in a list of ends, and at which ports: a network is closed by counts where each wire is at one output port and at one input port.
-use Rattle.std.proofs.Common.{◌≡◌, ◌⊎◌, inl, inr, ℕ, zero, suc, pred, ◌+◌, ◌≤◌, Bool, true, false, not, List, [], ◌∷◌, ◌++◌, map, length, get_or, Option, None, Some, refl, sym, ap, ◌∙◌, subst, arith, ne_eqb}
+use Rattle.std.proofs.Common.{◌≡◌, ◌≢◌, ◌⊎◌, inl, inr, ℕ, zero, suc, pred, ◌+◌, ◌≤◌, Bool, true, false, not, List, [], ◌∷◌, ◌++◌, map, length, get_or, Option, None, Some, refl, sym, ap, ◌∙◌, subst, arith, ne_eqb}
 use Rattle.std.specs.Prelude.{slice_get}
 use Rattle.std.specs.List.{AllByRecursion}
 use Rattle.std.proofs.lemmas.Bool.{cases_eq, false≢true}
@@ -157,6 +157,24 @@ picked_not false (false ∷ ds) (w ∷ ws) = picked_not false ds ws
 pub later_same : (n : ℕ) (o : Option Node) → directions_at (suc n) o ≡ outs_at o
 later_same n None = refl
 later_same n (Some x) = rw (ne_eqb (suc n) 0 (omega arith)) refl
+
+not_not : (b : Bool) → not (not b) ≡ b
+not_not true = refl
+not_not false = refl
+
+-- with the directions exchanged the sides are exchanged
+pub exchanged : (b : Bool) (ds : List Bool) (p : ℕ) → side_of b (map not ds) p ≡ side_of (not b) ds p
+exchanged true [] p = refl
+exchanged false [] p = refl
+exchanged true (d ∷ ds) zero = refl
+exchanged false (d ∷ ds) zero = not_not d
+exchanged true (d ∷ ds) (suc p) = exchanged true ds p
+exchanged false (d ∷ ds) (suc p) = exchanged false ds p
+
+-- a component has its own directions
+pub own_directions : (n : ℕ) (o : Option Node) → ◌≢◌ {A = ℕ} n 0 → directions_at n o ≡ outs_at o
+own_directions n None h = refl
+own_directions n (Some x) h = rw (ne_eqb n 0 h) refl
 
 first_sized : (k : ℕ) (x : Node) → Fits k x → length x.ends ≡ length (map not (outs_of x.spec))
 first_sized k x fits = fits.sized ∙ sym (length-map (outs_of x.spec) not)

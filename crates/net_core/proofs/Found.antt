@@ -6,13 +6,13 @@ use Rattle.std.proofs.lemmas.Bool.{cases_Bool, cases_lt, false≢true, and_parts
 use Rattle.std.proofs.lemmas.List.{get_or_past, get_or_default, length-map}
 use Rattle.std.proofs.lemmas.List.Folds.{Any-from_list_any, list_any_at}
 use Rattle.std.proofs.lemmas.List.FromFn.{get_or-range_with_len, length-range_with_len}
-use Rattle.std.proofs.lemmas.List.Sums.{position_or_len_is}
+use Rattle.std.proofs.lemmas.List.Sums.{position_or_len_is, passes_at_first, fails_before_first}
 use Rattle.std.proofs.lemmas.Option.{slice_get_within}
 use Rattle.net_core.specs.Specs.{outs_of}
 use Rattle.net_core.specs.Wiring.{Node, Circuit, Fits, IsClosed}
 use Rattle.net_core.specs.Networks.{directions_at, directions, gives, takes, end_of, end_at, has_end, end_node, end_port, Once}
 use Rattle.net_core.proofs.Counting.{all_at}
-use Rattle.net_core.proofs.Ends.{later_same, closed_by_ends}
+use Rattle.net_core.proofs.Ends.{side_of, later_same, closed_by_ends}
 
 ranged : (n k : ℕ) → k < n → get_or (range_with_len 0 n) k 0 ≡ k
 ranged n k h = get_or-range_with_len 0 n k 0 h ∙ omega arith
@@ -27,16 +27,29 @@ first_is test n i h passes only =
     fails : (k : ℕ) → k < n → (k ≡ i → ⊥) → test k ≡ false
     fails k lt other = elim (cases_Bool (test k)) [ inl yes_it ↦ absurd (other (only k lt yes_it)) | inr it ↦ it ]
 
-some_below : (test : ℕ → Bool) (n : ℕ) → list_any test (range_with_len 0 n) ≡ true → (k : ℕ) × (k < n) × (test k ≡ true)
+pub some_below : (test : ℕ → Bool) (n : ℕ) → list_any test (range_with_len 0 n) ≡ true → (k : ℕ) × (k < n) × (test k ≡ true)
 some_below test n h =
     let (k, x, below, is, passes) = Any-from_list_any test (range_with_len 0 n) h in
     let lt : k < n = omega (arith, length-range_with_len 0 n) in
     let same : x ≡ k = omega (arith, is, get_or-range_with_len 0 n k x lt) in
     (k, lt, ap test (sym same) ∙ passes)
 
-any_below : (test : ℕ → Bool) (n k : ℕ) → k < n → test k ≡ true → list_any test (range_with_len 0 n) ≡ true
+pub any_below : (test : ℕ → Bool) (n k : ℕ) → k < n → test k ≡ true → list_any test (range_with_len 0 n) ≡ true
 any_below test n k h passes =
     list_any_at test (range_with_len 0 n) k 0 (omega (arith, length-range_with_len 0 n)) (ap test (ranged n k h) ∙ passes)
+
+-- where one passes, the first that does
+pub first_below : (test : ℕ → Bool) (n k : ℕ) → k < n → test k ≡ true
+    → (test (position_or_len test (range_with_len 0 n)) ≡ true) × (position_or_len test (range_with_len 0 n) < n)
+first_below test n k lt passes =
+    let size = length-range_with_len 0 n in
+    elim (cases_lt (position_or_len test (range_with_len 0 n)) n) [
+      | inl h ↦ (
+        ap test (sym (ranged n (position_or_len test (range_with_len 0 n)) h)) ∙ passes_at_first test (range_with_len 0 n) 0 (omega arith),
+        h,
+      )
+      | inr past ↦ absurd (false≢true (sym (ap test (sym (ranged n k lt)) ∙ fails_before_first test (range_with_len 0 n) k 0 (omega arith)) ∙ passes))
+    ]
 
 -- The ports of f are ports of nodes that are there.
 abbrev pub IsThere : (ℕ → ℕ → Bool) → Circuit → Type 0
@@ -62,6 +75,11 @@ module _ (f : ℕ → ℕ → Bool) (c : Circuit) (there : IsThere f c) (w n p :
   port_found : end_port f c w ≡ p
   unfolding end_port
   port_found = port_of (end_node f c w) node_found
+
+-- The one port at a wire is found from it.
+pub found_only : (f : ℕ → ℕ → Bool) (c : Circuit) → IsThere f c → (w n p : ℕ) → f n p ≡ true → end_at c n p ≡ w
+    → ((m q : ℕ) → f m q ≡ true → end_at c m q ≡ w → (m ≡ n) × (q ≡ p)) → (end_node f c w ≡ n) × (end_port f c w ≡ p)
+found_only f c there w n p is at only = (node_found f c there w n p is at only, port_found f c there w n p is at only)
 
 node_there : (xs : List Node) (n p : ℕ) (o : Option Node) → slice_get xs n ≡ o → p < length (directions_at n o) → n < length xs
 node_there xs n p None e h = absurd (omega arith)
@@ -89,19 +107,34 @@ one_side c n p g t =
     let same : get_or (directions c n) p false ≡ get_or (directions c n) p true = get_or_default (directions c n) p false true h in
     false≢true (ap not (sym g ∙ same) ∙ t)
 
-node_fits : (k : ℕ) (xs : List Node) (n : ℕ) (x : Node) → AllByRecursion (Fits k) xs → slice_get xs n ≡ Some x → Fits k x
-node_fits k [] n x all e = absurd (cc)
-node_fits k (y ∷ xs) zero x all e = let same : y ≡ x = cc in subst (λ z. Fits k z) same all.0
-node_fits k (y ∷ xs) (suc n) x all e = node_fits k xs n x all.1 e
+pub all_nodes : (P : Node → Type 0) (xs : List Node) (n : ℕ) (x : Node) → AllByRecursion P xs → slice_get xs n ≡ Some x → P x
+all_nodes P [] n x all e = absurd (cc)
+all_nodes P (y ∷ xs) zero x all e = let same : y ≡ x = cc in subst P same all.0
+all_nodes P (y ∷ xs) (suc n) x all e = all_nodes P xs n x all.1 e
 
-same_ports : (n : ℕ) (x : Node) → length (directions_at n (Some x)) ≡ length (outs_of x.spec)
+pub same_ports : (n : ℕ) (x : Node) → length (directions_at n (Some x)) ≡ length (outs_of x.spec)
 same_ports zero x = length-map (outs_of x.spec) not
 same_ports (suc n) x = ap (λ (l : List Bool). length l) (later_same n (Some x))
+
+side_within : (b : Bool) (ds : List Bool) (p : ℕ) → side_of b ds p ≡ true → p < length ds
+side_within true [] p h = absurd (false≢true h)
+side_within false [] p h = absurd (false≢true h)
+side_within true (d ∷ ds) zero h = omega arith
+side_within false (d ∷ ds) zero h = omega arith
+side_within true (d ∷ ds) (suc p) h = let l = side_within true ds p h in omega arith
+side_within false (d ∷ ds) (suc p) h = let l = side_within false ds p h in omega arith
+
+-- a port is that of a node that is there
+pub port_within : (b : Bool) (xs : List Node) (n p : ℕ) (o : Option Node) → slice_get xs n ≡ o → side_of b (directions_at n o) p ≡ true
+    → (x : Node) × (slice_get xs n ≡ Some x) × (p < length (outs_of x.spec))
+port_within true xs n p None e h = absurd (false≢true h)
+port_within false xs n p None e h = absurd (false≢true h)
+port_within b xs n p (Some x) e h = let l = side_within b (directions_at n (Some x)) p h in let same = same_ports n x in (x, e, omega arith)
 
 known_at : (k : ℕ) (xs : List Node) (n p : ℕ) (o : Option Node) → AllByRecursion (Fits k) xs → slice_get xs n ≡ o → p < length (directions_at n o) → end_of o p < k
 known_at k xs n p None all e h = absurd (omega arith)
 known_at k xs n p (Some x) all e h =
-    let fits : Fits k x = node_fits k xs n x all e in
+    let fits : Fits k x = all_nodes (Fits k) xs n x all e in
     all_at (λ w. w < k) x.ends p fits.known (omega (arith, fits.sized, same_ports n x))
 
 -- the wire at a port of a node that is there is known

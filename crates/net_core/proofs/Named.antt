@@ -5,7 +5,8 @@ use Rattle.std.proofs.lemmas.Bool.{cases_eq}
 use Rattle.net_core.specs.Runs.{Event, Fire, Pass, Fabric, State, start, grow, put, after, after_all, Enabled, Fits, Run, Sound, Exact, seen}
 use Rattle.net_core.proofs.Updates.{grow_same, grow_other, put_same, put_other}
 use Rattle.net_core.proofs.Webs.{Move, Send, Land, Web, Stage, longer, marked, May, begin, next, next_all, Ready, Safe, Plays, WebSound, WebExact}
-use Rattle.net_core.proofs.Told.{Lawful, follows_last, longer_is, longer_at, longer_away, marked_cases}
+use Rattle.cmd_tree.proofs.RoundsRule.{follows_last}
+use Rattle.net_core.proofs.Told.{Lawful, longer_is, longer_at, longer_away, marked_cases}
 
 -- The network f is the web d under numbers: node n is `name n`, and its port p is at the wire `label n p`. Only nodes below `size` count, and only ports that fire.
 pub record Names (N W : Type 0) (d : Web N W) (f : Fabric) : Type 0 where

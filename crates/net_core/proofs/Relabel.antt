@@ -1,7 +1,8 @@
 -- A trace under an injective change of names, for nodes whose rule depends on counts.
 use Rattle.std.proofs.Common.{◌≡◌, ℕ, suc, Bool, List, [], ◌∷◌, ◌++◌, map, ◌⊎◌, inl, inr, refl, sym, ap, subst, ◌∙◌}
 use Rattle.std.proofs.lemmas.List.{map-append}
-use Rattle.net_core.proofs.Webs.{grown, tally, naught, Follows, Decides}
+use Rattle.cmd_tree.specs.Rounds.{grown, tally, naught, Follows}
+use Rattle.net_core.proofs.Webs.{Decides}
 use Rattle.net_core.proofs.Told.{grown_cases}
 
 pub follows_map : {A B : Type 0} (a : List A → A → Type 0) (b : List B → B → Type 0) (g : A → B) → ((u : List A) (p : A) → a u p → b (map g u) (g p))

@@ -7,10 +7,10 @@ use Rattle.std.proofs.lemmas.List.{length-map}
 use Rattle.std.proofs.lemmas.Option.{none-some, same_Some}
 use Rattle.net_core.specs.declared.spec.NodeSpec.{NodeSpec}
 use Rattle.net_core.specs.Wiring.{Node, Circuit, Fits, IsClosed, moved}
-use Rattle.net_core.specs.Networks.{directions_at, directions, gives, takes, end_of, end_at, end_node, end_port, may_of, spec_of, fabric, IsSpecified, SoundFor, Correct, IsClean}
+use Rattle.net_core.specs.Networks.{directions_at, directions, gives, takes, end_of, end_at, end_node, end_port, may_of, spec_of, fabric, IsSpecified, SoundFor, Correct, IsClean, Once}
 use Rattle.net_core.proofs.Moved.{directions_moved, may_moved, end_moved, all_from, all_moved}
-use Rattle.net_core.proofs.ClosedByEnds.{side_of, Once, closed_counts}
-use Rattle.net_core.proofs.Located.{Located, found_only, gives_real, takes_real, gives_located, takes_located, port_within, all_nodes}
+use Rattle.net_core.proofs.Ends.{side_of, closed_by_counts}
+use Rattle.net_core.proofs.Found.{Located, found_only, gives_there, takes_there, gives_located, takes_located, port_within, all_nodes}
 use Rattle.net_core.proofs.Renumbered.{Renumbers, renumbered_sound, renumbered_exact}
 
 -- d is c with other numbers for its nodes and its wires. The environment stays first.
@@ -98,14 +98,14 @@ module _ (c d : Circuit) (k : Reorders c d) (fit : AllByRecursion (Fits c.wires)
   new_from w l =
       let n = end_node (gives c) c w in let p = end_port (gives c) c w in
       let g = gives_at.real w l in let e = ap k.wire (gives_at.back w l) in
-      found_only (gives d) d (gives_real d) (k.wire w) (k.node n) p (same_gives n p ∙ g) (new_end true n p g ∙ e)
+      found_only (gives d) d (gives_there d) (k.wire w) (k.node n) p (same_gives n p ∙ g) (new_end true n p g ∙ e)
       (λ m q h f. gives_once n p g m q h (f ∙ sym e))
 
   new_to : (w : ℕ) → w < c.wires → (end_node (takes d) d (k.wire w) ≡ k.node (end_node (takes c) c w)) × (end_port (takes d) d (k.wire w) ≡ end_port (takes c) c w)
   new_to w l =
       let n = end_node (takes c) c w in let p = end_port (takes c) c w in
       let g = takes_at.real w l in let e = ap k.wire (takes_at.back w l) in
-      found_only (takes d) d (takes_real d) (k.wire w) (k.node n) p (same_takes n p ∙ g) (new_end false n p g ∙ e)
+      found_only (takes d) d (takes_there d) (k.wire w) (k.node n) p (same_takes n p ∙ g) (new_end false n p g ∙ e)
       (λ m q h f. takes_once n p g m q h (f ∙ sym e))
 
   pub reordered : Renumbers (fabric c) (fabric d)
@@ -157,7 +157,7 @@ module _ (c d : Circuit) (k : Reorders c d) (fit : AllByRecursion (Fits c.wires)
       (k.node n, p, same_takes n p ∙ g, new_end false n p g ∙ e, (λ m q h f. takes_once n p g m q h (f ∙ sym e)))
 
   pub reordered_closed : IsClosed d
-  reordered_closed = closed_counts d reordered_fits (λ x l. (
+  reordered_closed = closed_by_counts d reordered_fits (λ x l. (
     subst (Once (gives d) d) (k.wire_new x) (gives_one (k.wire_back x) (wire_known x l)),
     subst (Once (takes d) d) (k.wire_new x) (takes_one (k.wire_back x) (wire_known x l)),
   ))

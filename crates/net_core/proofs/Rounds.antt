@@ -2,7 +2,8 @@
 use Rattle.std.proofs.Common.{◌≡◌, ℕ, zero, suc, ◌<◌, ◌≤◌, Bool, ◌⊎◌, inl, inr, refl, sym, ap, subst, arith}
 use Rattle.std.proofs.lemmas.Bool.{cases_lt}
 use native.Mathlib.Decide.{ℕ_discrete}
-use Rattle.net_core.proofs.Webs.{Web, same_number, numbers_decide, tally, naught, Decides, test, test_decides, WebSound, WebExact}
+use Rattle.cmd_tree.specs.Rounds.{same_number, tally, naught}
+use Rattle.net_core.proofs.Webs.{Web, numbers_decide, Decides, test, test_decides, WebSound, WebExact}
 use Rattle.net_core.proofs.Told.{Lawful, Flows}
 use Rattle.net_core.proofs.Woven.{Grew, grew_same, grew_le, grew_other, Reads, Counting, Keeps, Draws, pull, give, show, web_sound, web_exact}
 

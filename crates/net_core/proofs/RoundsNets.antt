@@ -2,10 +2,10 @@
 use Rattle.std.proofs.Common.{◌≡◌, ℕ, zero, suc, ◌+◌, ◌-◌, ◌<◌, ◌≤◌, ◌==◌, ltb, List, map, ◌⊎◌, ◌↔◌, inl, inr, refl, sym, ap, subst, ◌∙◌, arith, if◌then◌else◌, eq-eqb, ne_eqb, lt-ltb, le-ltb}
 use Rattle.std.proofs.lemmas.Bool.{cases_lt, cases_eq}
 use Rattle.net_core.specs.Runs.{Fabric, Sound, Exact}
-use Rattle.net_core.proofs.Webs.{May, same_number, numbers_decide}
+use Rattle.cmd_tree.specs.Rounds.{same_number, RoundsAt, Rounds}
+use Rattle.net_core.proofs.Webs.{May, numbers_decide}
 use Rattle.net_core.proofs.Named.{Names, named_sound, named_exact, one_by_one}
 use Rattle.net_core.proofs.Relabel.{relabel, relabel_back}
-use Rattle.net_core.proofs.RoundsRule.{RoundsAt, Rounds}
 use Rattle.net_core.proofs.Rounds.{Wire, In, Out, Mid, same_wire, wires_decide, AtRounds, AtJoin, AtSpread, one_web, one_driver, one_receiver, one_lawful, one_sound, one_exact, two_web, two_driver, two_receiver, two_lawful, two_sound, two_exact}
 
 -- the wire at port p of a node with n inputs by the rule of rounds

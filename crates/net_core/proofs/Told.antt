@@ -2,23 +2,9 @@
 use Rattle.std.proofs.Common.{◌≡◌, ℕ, suc, Bool, true, false, List, [], ◌∷◌, ◌++◌, ◌⊎◌, inl, inr, refl, sym, ap, subst, ◌∙◌, append_assoc}
 use Rattle.std.proofs.Common.{arith}
 use Rattle.std.proofs.lemmas.List.{append-nil}
-use Rattle.net_core.proofs.Webs.{Move, Send, Land, Web, Stage, grown, tally, naught, Follows, Decides, longer, marked, May, begin, next, next_all, Ready, Safe, Plays, WebSound, WebExact}
-
-pub follows_end : {W : Type 0} (a : List W → W → Type 0) (b t : List W) (w : W) → Follows a b t → a (b ++ t) w → Follows a b (t ++ w ∷ [])
-follows_end a b [] w f r = (subst (λ l. a l w) (append-nil b) r, tt)
-follows_end a b (v ∷ t) w f r = (f.0, follows_end a (b ++ v ∷ []) t w f.1 (subst (λ l. a l w) (sym (append_assoc b (v ∷ []) t)) r))
-
-pub follows_last : {W : Type 0} (a : List W → W → Type 0) (b t : List W) (w : W) → Follows a b (t ++ w ∷ []) → a (b ++ t) w
-follows_last a b [] w f = subst (λ l. a l w) (sym (append-nil b)) f.0
-follows_last a b (v ∷ t) w f = subst (λ l. a l w) (append_assoc b (v ∷ []) t) (follows_last a (b ++ v ∷ []) t w f.1)
-
-pub follows_start : {W : Type 0} (a : List W → W → Type 0) (b t : List W) (w : W) → Follows a b (t ++ w ∷ []) → Follows a b t
-follows_start a b [] w f = tt
-follows_start a b (v ∷ t) w f = (f.0, follows_start a (b ++ v ∷ []) t w f.1)
-
-pub tally_end : {W : Type 0} (same : W → W → Bool) (c : W → ℕ) (t : List W) (w : W) → tally same c (t ++ w ∷ []) ≡ grown same (tally same c t) w
-tally_end same c [] w = refl
-tally_end same c (v ∷ t) w = tally_end same (grown same c v) t w
+use Rattle.cmd_tree.specs.Rounds.{grown, tally, naught, Follows}
+use Rattle.cmd_tree.proofs.RoundsRule.{follows_end, follows_last, tally_end}
+use Rattle.net_core.proofs.Webs.{Move, Send, Land, Web, Stage, Decides, longer, marked, May, begin, next, next_all, Ready, Safe, Plays, WebSound, WebExact}
 
 pub grown_cases : {W : Type 0} (same : W → W → Bool) → Decides same → (c : W → ℕ) (w v : W)
     → ((v ≡ w) × (grown same c w v ≡ suc (c v))) ⊎ ((v ≡ w → ⊥) × (grown same c w v ≡ c v))

@@ -1,7 +1,8 @@
 -- Webs by counts: how often each wire was fired, F, and handed over, P. A family of webs is proved by arithmetic on F and P alone.
 use Rattle.std.proofs.Common.{◌≡◌, ℕ, suc, ◌≤◌, true, false, List, ◌⊎◌, inl, inr, refl, sym, ap, subst, ◌∙◌, arith}
 use Rattle.std.proofs.Math.Path.{fun_ext}
-use Rattle.net_core.proofs.Webs.{Web, tally, naught, WebSound, WebExact}
+use Rattle.cmd_tree.specs.Rounds.{tally, naught}
+use Rattle.net_core.proofs.Webs.{Web, WebSound, WebExact}
 use Rattle.net_core.proofs.Told as Told
 use Rattle.net_core.proofs.Told.{Longer, Lawful, sent, got, Flows, Tends, Went, Leads, pulls, ends, longer_away, count_more, count_away, count_other}
 

@@ -7,8 +7,8 @@ use Rattle.std.specs.List.{list_any, range_with_len, position_or_len}
 use Rattle.net_core.specs.Specs.{outs_of, May}
 use Rattle.net_core.specs.Wiring.{Node, Circuit}
 use Rattle.net_core.specs.Networks.{directions_at, directions, gives, takes, end_at, may_of, spec_of}
-use Rattle.net_core.proofs.ClosedByEnds.{side_of, outs_at, exchanged, own_directions}
-use Rattle.net_core.proofs.Located.{Located, first_found, any_from, any_gives, gives_located, takes_located}
+use Rattle.net_core.proofs.Ends.{side_of, outs_at, exchanged, own_directions}
+use Rattle.net_core.proofs.Found.{Located, first_below, any_below, some_below, gives_located, takes_located}
 use Rattle.substitute.specs.Splice.{driver, receiver, output, input, is_inner, rank, renumber, Fitting}
 use Rattle.substitute.proofs.Ranks.{rank_same}
 
@@ -45,8 +45,8 @@ there_some c a m w e = rw e refl
 
 pub there_gives : (c : Circuit) (a : ℕ) (m : Circuit) (w u : ℕ) → there c a m w ≡ Some u → (u < m.wires) × (renumber c a m u ≡ w)
 there_gives c a m w u e = elim (cases_Bool (list_any (λ x. nat_eq (renumber c a m x) w) (range_with_len 0 m.wires))) [
-  | inl h ↦ (let (x, l, g) = any_gives (λ x. nat_eq (renumber c a m x) w) m.wires h in
-      let (at, below) = first_found (λ x. nat_eq (renumber c a m x) w) m.wires x l g in
+  | inl h ↦ (let (x, l, g) = some_below (λ x. nat_eq (renumber c a m x) w) m.wires h in
+      let (at, below) = first_below (λ x. nat_eq (renumber c a m x) w) m.wires x l g in
       let same : position_or_len (λ x. nat_eq (renumber c a m x) w) (range_with_len 0 m.wires) ≡ u = same_Some _ u (sym (there_some c a m w h) ∙ e) in (
         subst (λ x. x < m.wires) same below,
         ap (renumber c a m) (sym same) ∙ eqb-true (renumber c a m (position_or_len (λ x. nat_eq (renumber c a m x) w) (range_with_len 0 m.wires))) w at,
@@ -56,7 +56,7 @@ there_gives c a m w u e = elim (cases_Bool (list_any (λ x. nat_eq (renumber c a
 
 pub there_not : (c : Circuit) (a : ℕ) (m : Circuit) (w : ℕ) → ((u : ℕ) → u < m.wires → renumber c a m u ≡ w → ⊥) → there c a m w ≡ None
 there_not c a m w h = elim (cases_Bool (list_any (λ x. nat_eq (renumber c a m x) w) (range_with_len 0 m.wires))) [
-  | inl e ↦ (let (x, l, g) = any_gives (λ x. nat_eq (renumber c a m x) w) m.wires e in absurd (h x l (eqb-true (renumber c a m x) w g)))
+  | inl e ↦ (let (x, l, g) = some_below (λ x. nat_eq (renumber c a m x) w) m.wires e in absurd (h x l (eqb-true (renumber c a m x) w g)))
   | inr e ↦ there_none c a m w e
 ]
 
@@ -221,7 +221,7 @@ module _ (c : Circuit) (a : ℕ) (m : Circuit) (fit : Fitting c a m) where
 
   pub there_from : (w u : ℕ) → u < m.wires → renumber c a m u ≡ w → there c a m w ≡ Some u
   there_from w u l e =
-      let some = there_some c a m w (any_from (λ x. nat_eq (renumber c a m x) w) m.wires u l (eq-eqb (renumber c a m u) w e)) in
+      let some = there_some c a m w (any_below (λ x. nat_eq (renumber c a m x) w) m.wires u l (eq-eqb (renumber c a m u) w e)) in
       let (below, at) = there_gives c a m w (position_or_len (λ x. nat_eq (renumber c a m x) w) (range_with_len 0 m.wires)) some in
       some ∙ ap Some (one_wire (position_or_len (λ x. nat_eq (renumber c a m x) w) (range_with_len 0 m.wires)) u below l (at ∙ sym e))
 

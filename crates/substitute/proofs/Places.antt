@@ -8,8 +8,8 @@ use Rattle.substitute.specs.Splice.{renumber, spliced, Fitting}
 use Rattle.net_core.specs.Wiring.{Node, Circuit, Fits, moved}
 use Rattle.net_core.specs.Networks.{directions_at, directions, gives, takes, end_of, end_at, may_of}
 use Rattle.net_core.proofs.Moved.{directions_same, directions_moved, may_moved, end_moved}
-use Rattle.net_core.proofs.ClosedByEnds.{side_of}
-use Rattle.net_core.proofs.Located.{port_within, all_nodes}
+use Rattle.net_core.proofs.Ends.{side_of}
+use Rattle.net_core.proofs.Found.{port_within, all_nodes}
 
 get_before : {X : Type 0} (xs ys : List X) (n : ℕ) → n < length xs → slice_get (xs ++ ys) n ≡ slice_get xs n
 get_before [] ys n h = absurd (omega arith)

@@ -2,7 +2,7 @@
 use Rattle.std.proofs.Common.{false, ◌≡◌, ◌≢◌, ◌⊎◌, inl, inr, ℕ, ◌<◌, ◌≤◌, Bool, true, Some, refl, sym, ap, ◌∙◌, arith}
 use Rattle.net_core.specs.Wiring.{Circuit}
 use Rattle.net_core.specs.Networks.{gives, takes, end_at, fabric}
-use Rattle.net_core.proofs.Located.{found_only, gives_real, takes_real}
+use Rattle.net_core.proofs.Found.{found_only, gives_there, takes_there}
 use Rattle.substitute.specs.Splice.{driver, receiver, output, input, renumber, spliced, Fitting}
 use Rattle.substitute.proofs.Joins.{Half, Joins}
 use Rattle.substitute.proofs.Places.{net_place, part_place, net_alone, part_alone, places_apart, net_zero, decode, spliced_length, net_gives, net_takes, net_end, part_gives, part_takes, part_end, net_may, part_may}
@@ -33,7 +33,7 @@ module _ (c : Circuit) (a : ℕ) (m : Circuit) (fit : Fitting c a m) where
 
   pub given_origin : (k q : ℕ) → gives (spliced c a m) k q ≡ true → OfNet c a m (gives c) k q ⊎ OfPart c a m (gives m) k q
   given_origin k q g =
-      let (l, r) = gives_real (spliced c a m) k q g in let s = spliced_length c a m fit in
+      let (l, r) = gives_there (spliced c a m) k q g in let s = spliced_length c a m fit in
       elim (decode c a m fit k (omega arith)) [
         | inl (n, ne, e) ↦ inl (record {
           node = n;
@@ -54,7 +54,7 @@ module _ (c : Circuit) (a : ℕ) (m : Circuit) (fit : Fitting c a m) where
 
   pub taken_origin : (k q : ℕ) → takes (spliced c a m) k q ≡ true → OfNet c a m (takes c) k q ⊎ OfPart c a m (takes m) k q
   taken_origin k q g =
-      let (l, r) = takes_real (spliced c a m) k q g in let s = spliced_length c a m fit in
+      let (l, r) = takes_there (spliced c a m) k q g in let s = spliced_length c a m fit in
       elim (decode c a m fit k (omega arith)) [
         | inl (n, ne, e) ↦ inl (record {
           node = n;
@@ -139,7 +139,7 @@ module _ (c : Circuit) (a : ℕ) (m : Circuit) (fit : Fitting c a m) where
   net_to v l ne =
       let t = (net_takes_at c a m fit).real v l in
       let e = (net_takes_at c a m fit).back v l in
-      found_only (takes (spliced c a m)) (spliced c a m) (takes_real (spliced c a m)) v (net_place c a m (receiver c v)) (input c v)
+      found_only (takes (spliced c a m)) (spliced c a m) (takes_there (spliced c a m)) v (net_place c a m (receiver c v)) (input c v)
       (net_takes c a m fit (receiver c v) (input c v) ne ∙ t) (net_end c a m fit (receiver c v) (input c v) ne ∙ e)
       (λ k q h g. taken_net_once (receiver c v) (input c v) ne t k q h (g ∙ sym e))
 
@@ -148,7 +148,7 @@ module _ (c : Circuit) (a : ℕ) (m : Circuit) (fit : Fitting c a m) where
   part_to u l h =
       let t = (part_takes_at c a m fit).real u l in
       let e = ap (renumber c a m) ((part_takes_at c a m fit).back u l) in
-      found_only (takes (spliced c a m)) (spliced c a m) (takes_real (spliced c a m)) (renumber c a m u) (part_place c a m (receiver m u)) (input m u)
+      found_only (takes (spliced c a m)) (spliced c a m) (takes_there (spliced c a m)) (renumber c a m u) (part_place c a m (receiver m u)) (input m u)
       (part_takes c a m fit (receiver m u) (input m u) h ∙ t) (part_end_taken (receiver m u) (input m u) h t ∙ e)
       (λ k q x g. taken_part_once (receiver m u) (input m u) h t k q x (g ∙ sym e))
 

@@ -7,11 +7,11 @@ use Rattle.std.proofs.lemmas.List.{length-map}
 use Rattle.std.specs.List.{AllByRecursion}
 use Rattle.net_core.specs.Runs.{Sound, Exact}
 use Rattle.net_core.specs.Wiring.{Node, Circuit, Fits, IsClosed, moved}
-use Rattle.net_core.specs.Networks.{gives, takes, end_at, spec_of, fabric, IsSpecified, SoundFor, Correct, IsClean}
+use Rattle.net_core.specs.Networks.{gives, takes, end_at, spec_of, fabric, IsSpecified, SoundFor, Correct, IsClean, Once}
 use Rattle.net_core.specs.declared.spec.NodeSpec.{NodeSpec}
 use Rattle.net_core.proofs.Moved.{all_from, all_moved}
-use Rattle.net_core.proofs.ClosedByEnds.{Once, closed_counts}
-use Rattle.net_core.proofs.Located.{found_only, gives_real, takes_real, all_nodes}
+use Rattle.net_core.proofs.Ends.{closed_by_counts}
+use Rattle.net_core.proofs.Found.{found_only, gives_there, takes_there, all_nodes}
 use Rattle.substitute.specs.Splice.{driver, receiver, output, input, is_inner, rank, renumber, spliced, Fitting}
 use Rattle.substitute.proofs.Ranks.{rank_below, rank_onto}
 use Rattle.substitute.proofs.Places.{net_zero, net_place, part_place, net_alone, part_alone, places_apart, decode, spliced_length, net_node, part_node, net_gives, net_takes, net_end, part_gives, part_takes}
@@ -189,16 +189,16 @@ module _ (c : Circuit) (a : ℕ) (m : Circuit) (fit : Fitting c a m) where
       )
 
   pub spliced_closed : IsClosed (spliced c a m)
-  spliced_closed = closed_counts (spliced c a m) spliced_fits (λ w l. (given_once w (given_by w l), taken_once w (taken_by w l)))
+  spliced_closed = closed_by_counts (spliced c a m) spliced_fits (λ w l. (given_once w (given_by w l), taken_once w (taken_by w l)))
 
   -- the driver and the receiver of a wire in the result
   driver_of : (w : ℕ) (x : AtNet c a driver w ⊎ AtPart c a m driver w) → driver (spliced c a m) w ≡ (given_once w x).0
   driver_of w x = let (k, q, g, e, only) = given_once w x in
-      (found_only (gives (spliced c a m)) (spliced c a m) (gives_real (spliced c a m)) w k q g e only).0
+      (found_only (gives (spliced c a m)) (spliced c a m) (gives_there (spliced c a m)) w k q g e only).0
 
   receiver_of : (w : ℕ) (x : AtNet c a receiver w ⊎ AtPart c a m receiver w) → receiver (spliced c a m) w ≡ (taken_once w x).0
   receiver_of w x = let (k, q, g, e, only) = taken_once w x in
-      (found_only (takes (spliced c a m)) (spliced c a m) (takes_real (spliced c a m)) w k q g e only).0
+      (found_only (takes (spliced c a m)) (spliced c a m) (takes_there (spliced c a m)) w k q g e only).0
 
   pub spliced_clean : IsClean c → IsClean m → IsClean (spliced c a m)
   unfolding given_once taken_once
