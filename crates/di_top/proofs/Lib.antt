@@ -3,3 +3,4 @@ pub mod FormPorts
 pub mod OneNet
 pub mod JoinNet
 pub mod FormNet
+pub mod Parsing

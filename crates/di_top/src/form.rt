@@ -3,7 +3,7 @@ ghost use Rattle.di_top.specs.FormRead.{IsRead};
 ghost use Rattle.di_top.specs.FormText.{IsFormText};
 
 use cmd_tree::Command;
-use std::alloc::{AllocError, Global};
+use std::alloc::{AllocError, AllocFailed, Global};
 
 /// A text of the form, read: its command, and how many inputs and outputs it has.
 #[derive(Drop)]
@@ -18,6 +18,28 @@ pub struct Form {
 pub enum FormRefusal {
     NotThisForm,
     NoMemory,
+}
+
+impl From<AllocError> for FormRefusal {
+    ghost use Rattle.std.specs.Prelude.{◌≡◌};
+    ghost use Rattle.di_top.specs.declared.form.FormRefusal.{FormRefusal};
+
+    ghost from_gives = { λ _ refusal. refusal ≡ FormRefusal.NoMemory };
+
+    fn from(_error: AllocError) -> FormRefusal {
+        FormRefusal::NoMemory
+    }
+}
+
+impl<T: Drop> From<AllocFailed<T>> for FormRefusal {
+    ghost use Rattle.std.specs.Prelude.{◌≡◌};
+    ghost use Rattle.di_top.specs.declared.form.FormRefusal.{FormRefusal};
+
+    ghost from_gives = { λ _ refusal. refusal ≡ FormRefusal.NoMemory };
+
+    fn from(_failed: AllocFailed<T>) -> FormRefusal {
+        FormRefusal::NoMemory
+    }
 }
 
 /// Reads a text of the form. It answers `NotThisForm` exactly where the bytes are no such text.
