@@ -4,3 +4,4 @@ pub mod OneNet
 pub mod JoinNet
 pub mod FormNet
 pub mod Parsing
+pub mod FormProofs

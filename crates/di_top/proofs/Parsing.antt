@@ -1,5 +1,5 @@
 -- How the parts of a text of the form are read back.
-use Rattle.std.proofs.Common.{◌≡◌, ◌≢◌, ℕ, zero, suc, ◌+◌, ◌-◌, ◌<◌, ◌≤◌, Bool, true, false, ◌&&◌, nat_eq, nat_lt, if◌then◌else◌, List, [], ◌∷◌, ◌++◌, length, take, drop, get_or, Option, Some, None, codes, refl, sym, ap, subst, ◌∙◌, arith, add-one, drop-cons, append_assoc, IsTrue, ◌⊎◌, inl, inr, not, nat_le, eqb, unwrap_or, lt-ltb}
+use Rattle.std.proofs.Common.{◌≡◌, ◌≢◌, ℕ, zero, suc, ◌+◌, ◌-◌, ◌<◌, ◌≤◌, Bool, true, false, ◌&&◌, nat_eq, nat_lt, if◌then◌else◌, List, [], ◌∷◌, ◌++◌, length, take, drop, get_or, Option, Some, None, codes, refl, sym, ap, subst, ◌∙◌, arith, append-nil, eqb-true, add-one, drop-cons, append_assoc, IsTrue, ◌⊎◌, inl, inr, not, nat_le, eqb, unwrap_or, lt-ltb}
 use borrow.Author.Tests.{ltb-true}
 use Rattle.std.proofs.lemmas.Bool.Decides.{eqb_tells}
 use Rattle.std.proofs.lemmas.Bool.{cases_Bool}
@@ -7,8 +7,8 @@ use Rattle.std.proofs.lemmas.List.{take-append-drop}
 use Rattle.std.proofs.Math.Seq.{take-append_seam, drop-append_seam}
 use Rattle.std.specs.List.{AllByRecursion, list_all}
 use Rattle.cmd_tree.specs.Limits.{is_tail, is_name, begins_with_letter, is_letter, is_word}
-use Rattle.di_top.specs.FormParse.{run_of, after, with_name, symbol_at, symbols_at, burst_at, put_first, after_bars, after_symbol, Part, alone, with_rest, in_brackets, burst_or_symbol}
-use Rattle.di_top.specs.FormText.{joined_text, burst_text}
+use Rattle.di_top.specs.FormParse.{run_of, after, with_name, symbol_at, symbols_at, burst_at, put_first, after_bars, after_symbol, Part, alone, with_rest, in_brackets, burst_or_symbol, form_at, and_then, is_end, to_end}
+use Rattle.di_top.specs.FormText.{joined_text, burst_text, form_text, IsFormText}
 
 pub after_short : (xs bs : List ℕ) (i : ℕ) → i < length xs → length bs < 1 → after (drop i xs) bs ≡ None
 unfolding after
@@ -25,11 +25,12 @@ pub after_front : (xs bs r : List ℕ) → after xs bs ≡ Some r → bs ≡ xs 
 unfolding after
 after_front [] bs r e = cc
 after_front (x ∷ xs) [] r e = absurd (cc)
-after_front (x ∷ xs) (b ∷ bs) r e = by (eqb_tells x b)
-  where
-    by : ((eqb x b ≡ true) × (x ≡ b)) ⊎ ((eqb x b ≡ false) × (x ≢ b)) → b ∷ bs ≡ x ∷ (xs ++ r)
-    by (inl (t, same)) = let rest : after xs bs ≡ Some r = rw t at e in ap (λ (y : ℕ). y ∷ bs) (sym same) ∙ ap (λ (l : List ℕ). x ∷ l) (after_front xs bs r rest)
-    by (inr (f, other)) = let none : ◌≡◌ {A = Option (List ℕ)} None (Some r) = rw f at e in absurd (cc)
+after_front (x ∷ xs) (b ∷ bs) r e = elim (eqb_tells x b) [
+    inl (t, same) ↦
+      let rest : after xs bs ≡ Some r = rw t at e in
+      ap (λ (y : ℕ). y ∷ bs) (sym same) ∙ ap (λ (l : List ℕ). x ∷ l) (after_front xs bs r rest)
+  | inr (f, other) ↦ let none : ◌≡◌ {A = Option (List ℕ)} None (Some r) = rw f at e in absurd (cc)
+  ]
 
 both : (a b : Bool) → (a && b) ≡ true → (a ≡ true) × (b ≡ true)
 both true b e = (refl, e)
@@ -277,3 +278,111 @@ symbols_step most i mark bs rest n others more ns now h was pushed read bars =
     let opened : symbols_at (most - i) mark rest ≡ put_first (n ∷ []) (symbols_at (most - (i + 1)) mark more) = rw (one, read, bars) refl in
     was ∙ ap (put_first ns) opened ∙ put_twice ns (n ∷ []) (symbols_at (most - (i + 1)) mark more)
     ∙ ap (λ (l : List (List ℕ)). put_first l (symbols_at (most - (i + 1)) mark more)) (sym pushed)
+
+-- a whole text
+names_front : (ins outs : List (List ℕ)) → AllNames (ins ++ outs) → AllNames ins
+names_front [] outs h = tt
+names_front (n ∷ ins) outs h = (h.0, names_front ins outs h.1)
+
+names_back : (ins outs : List (List ℕ)) → AllNames (ins ++ outs) → AllNames outs
+names_back [] outs h = h
+names_back (n ∷ ins) outs h = names_back ins outs h.1
+
+names_both : (ins outs : List (List ℕ)) → AllNames ins → AllNames outs → AllNames (ins ++ outs)
+names_both [] outs h g = g
+names_both (n ∷ ins) outs h g = (h.0, names_both ins outs h.1 g)
+
+abbrev parts_text : List (List ℕ) → List (List ℕ) → List ℕ → List ℕ
+parts_text ins outs end = codes "main := pref*[" ++ (burst_text (codes "?") ins ++ (codes ";" ++ (burst_text (codes "!") outs ++ (codes "]." ++ end))))
+
+parts_back : (k : ℕ) (ins outs : List (List ℕ)) (end : List ℕ) → AllNames ins → AllNames outs → 0 < length ins → 0 < length outs → length ins ≤ k → length outs ≤ k
+    → is_end end ≡ true → form_at k (parts_text ins outs end) ≡ Some (ins, outs)
+unfolding form_at
+parts_back k ins outs end in_names out_names some_in some_out few_in few_out ends =
+    let second = burst_text (codes "!") outs ++ (codes "]." ++ end) in
+    rw (after_back (codes "main := pref*[") (burst_text (codes "?") ins ++ (codes ";" ++ second)),
+      burst_back k ins 63 (codes ";" ++ second) in_names refl some_in few_in,
+      after_back (codes ";") second,
+      burst_back k outs 33 (codes "]." ++ end) out_names refl some_out few_out,
+      after_back (codes "].") end, ends) refl
+
+whole_text : (ins outs : List (List ℕ)) → form_text ins outs ≡ parts_text ins outs []
+whole_text ins outs = simp (append_assoc, append-nil)
+
+ended_text : (ins outs : List (List ℕ)) → form_text ins outs ++ 10 ∷ [] ≡ parts_text ins outs (10 ∷ [])
+ended_text ins outs = simp append_assoc
+
+pub form_back : (k : ℕ) (bs : List ℕ) (ins outs : List (List ℕ)) → IsFormText bs ins outs → 1024 ≤ k → form_at k bs ≡ Some (ins, outs)
+form_back k bs ins outs h le = elim h.text [
+    inl e ↦ ap (form_at k) (e ∙ whole_text ins outs)
+      ∙ parts_back k ins outs [] (names_front ins outs h.formed) (names_back ins outs h.formed) h.some_in h.some_out (omega (arith, h.few)) (omega (arith, h.few)) refl
+  | inr e ↦ ap (form_at k) (e ∙ ended_text ins outs)
+      ∙ parts_back k ins outs (10 ∷ []) (names_front ins outs h.formed) (names_back ins outs h.formed) h.some_in h.some_out (omega (arith, h.few)) (omega (arith, h.few)) refl
+  ]
+
+-- the bytes are such a text, but for the number of names and their being different
+pub record FormRead (k : ℕ) (bs : List ℕ) (ins outs : List (List ℕ)) : Type 0 where
+  pub some_in : 0 < length ins
+  pub some_out : 0 < length outs
+  pub few_in : length ins ≤ k
+  pub few_out : length outs ≤ k
+  pub names : AllNames (ins ++ outs)
+  pub text : (bs ≡ form_text ins outs) ⊎ (bs ≡ form_text ins outs ++ 10 ∷ [])
+
+and_then_some : {A B : Type 0} (o : Option A) (f : A → Option B) (b : B) → and_then o f ≡ Some b → (a : A) × (o ≡ Some a) × (f a ≡ Some b)
+and_then_some None f b e = absurd (cc)
+and_then_some (Some a) f b e = (a, refl, e)
+
+end_cases : (r : List ℕ) → is_end r ≡ true → (r ≡ []) ⊎ (r ≡ 10 ∷ [])
+end_cases [] h = inl refl
+end_cases (b ∷ []) h = inr (ap (λ (x : ℕ). x ∷ []) (eqb-true b 10 h))
+end_cases (b ∷ c ∷ r) h = absurd (cc)
+
+to_end_some : (ins outs : List (List ℕ)) (r : List ℕ) (a b : List (List ℕ)) → to_end ins outs r ≡ Some (a, b) → (is_end r ≡ true) × (ins ≡ a) × (outs ≡ b)
+to_end_some ins outs r a b e = by (cases_Bool (is_end r))
+  where
+    by : (is_end r ≡ true) ⊎ (is_end r ≡ false) → (is_end r ≡ true) × (ins ≡ a) × (outs ≡ b)
+    by (inl t) =
+        let some : ◌≡◌ {A = Option (List (List ℕ) × List (List ℕ))} (Some (ins, outs)) (Some (a, b)) = rw t at e in
+        let inside = ap (λ (o : Option (List (List ℕ) × List (List ℕ))). unwrap_or o (ins, outs)) some in
+        (t, ap (λ (p : List (List ℕ) × List (List ℕ)). p.0) inside, ap (λ (p : List (List ℕ) × List (List ℕ)). p.1) inside)
+    by (inr f) = let none : ◌≡◌ {A = Option (List (List ℕ) × List (List ℕ))} None (Some (a, b)) = rw f at e in absurd (cc)
+
+ended : (bs r : List ℕ) (ins outs : List (List ℕ)) → bs ≡ parts_text ins outs r → is_end r ≡ true → (bs ≡ form_text ins outs) ⊎ (bs ≡ form_text ins outs ++ 10 ∷ [])
+ended bs r ins outs e h = elim (end_cases r h) [
+    inl none ↦ inl (e ∙ ap (parts_text ins outs) none ∙ sym (whole_text ins outs))
+  | inr one ↦ inr (e ∙ ap (parts_text ins outs) one ∙ sym (ended_text ins outs))
+  ]
+
+all_read : (k : ℕ) (bs inner second end : List ℕ) (p q : Part) (ins outs : List (List ℕ)) → 0 < k → after (codes "main := pref*[") bs ≡ Some inner
+    → burst_at k (codes "?") inner ≡ Some (p.0, p.1) → after (codes ";") p.1 ≡ Some second → burst_at k (codes "!") second ≡ Some (q.0, q.1)
+    → after (codes "].") q.1 ≡ Some end → to_end p.0 q.0 end ≡ Some (ins, outs) → FormRead k bs ins outs
+all_read k bs inner second end p q ins outs pos e1 e2 e3 e4 e5 e6 =
+    let last = to_end_some p.0 q.0 end ins outs e6 in
+    let first = burst_front k (codes "?") inner p.0 p.1 pos e2 in
+    let other = burst_front k (codes "!") second q.0 q.1 pos e4 in
+    let text : bs ≡ parts_text p.0 q.0 end =
+        after_front (codes "main := pref*[") bs inner e1
+        ∙ ap (λ (l : List ℕ). codes "main := pref*[" ++ l) (first.text
+          ∙ ap (λ (l : List ℕ). burst_text (codes "?") p.0 ++ l) (after_front (codes ";") p.1 second e3
+            ∙ ap (λ (l : List ℕ). codes ";" ++ l) (other.text
+              ∙ ap (λ (l : List ℕ). burst_text (codes "!") q.0 ++ l) (after_front (codes "].") q.1 end e5)))) in
+    let read : FormRead k bs p.0 q.0 = record {
+      some_in = first.some;
+      some_out = other.some;
+      few_in = first.few;
+      few_out = other.few;
+      names = names_both p.0 q.0 first.names other.names;
+      text = ended bs end p.0 q.0 text last.0;
+    } in
+    subst (λ (l : List (List ℕ)). FormRead k bs l outs) last.1 (subst (λ (l : List (List ℕ)). FormRead k bs p.0 l) last.2 read)
+
+pub form_front : (k : ℕ) (bs : List ℕ) (ins outs : List (List ℕ)) → 0 < k → form_at k bs ≡ Some (ins, outs) → FormRead k bs ins outs
+unfolding form_at
+form_front k bs ins outs pos e =
+    let (inner, e1, f1) = and_then_some (after (codes "main := pref*[") bs) _ (ins, outs) e in
+    let (p, e2, f2) = and_then_some (burst_at k (codes "?") inner) _ (ins, outs) f1 in
+    let (second, e3, f3) = and_then_some (after (codes ";") p.1) _ (ins, outs) f2 in
+    let (q, e4, f4) = and_then_some (burst_at k (codes "!") second) _ (ins, outs) f3 in
+    let (end, e5, f5) = and_then_some (after (codes "].") q.1) _ (ins, outs) f4 in
+    all_read k bs inner second end p q ins outs pos e1 e2 e3 e4 e5 f5

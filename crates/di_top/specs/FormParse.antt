@@ -63,3 +63,25 @@ burst_or_symbol k mark bs (Some r) = in_brackets (symbols_at k mark r)
 -- a symbol, or at most k symbols in round brackets, and what follows
 unfoldable pub burst_at : ℕ → List ℕ → List ℕ → Option Part
 burst_at k mark bs = burst_or_symbol k mark bs (after (codes "(") bs)
+
+abbrev pub and_then : {A B : Type 0} → Option A → (A → Option B) → Option B
+and_then None f = None
+and_then (Some x) f = f x
+
+-- nothing, or one line feed
+abbrev pub is_end : List ℕ → Bool
+is_end [] = true
+is_end (b ∷ []) = nat_eq b 10
+is_end (b ∷ c ∷ r) = false
+
+abbrev pub to_end : List (List ℕ) → List (List ℕ) → List ℕ → Option (List (List ℕ) × List (List ℕ))
+to_end ins outs r = if is_end r then Some (ins, outs) else None
+
+-- the inputs and the outputs of a text, each at most k
+unfoldable pub form_at : ℕ → List ℕ → Option (List (List ℕ) × List (List ℕ))
+form_at k bs =
+    and_then (after (codes "main := pref*[") bs) (λ inner.
+    and_then (burst_at k (codes "?") inner) (λ ins.
+    and_then (after (codes ";") ins.1) (λ second.
+    and_then (burst_at k (codes "!") second) (λ outs.
+    and_then (after (codes "].") outs.1) (λ end. to_end ins.0 outs.0 end)))))

@@ -3,7 +3,8 @@ ghost use Rattle.std.specs.Prelude.{◌≡◌, ℕ, ◌+◌, ◌<◌, ◌≤◌,
 ghost use Rattle.std.specs.List.{list_all};
 ghost use Rattle.cmd_tree.specs.Limits.{is_tail, is_letter, is_name};
 ghost use Rattle.cmd_tree.specs.Limits as spec;
-ghost use Rattle.di_top.specs.FormParse.{run_of, after, symbol_at, symbols_at, burst_at};
+ghost use Rattle.di_top.specs.FormParse as spec_form;
+ghost use Rattle.di_top.specs.FormParse.{run_of, after, symbol_at, symbols_at, burst_at, form_at};
 
 use crate::form::FormRefusal;
 use cmd_tree::Name;
@@ -136,5 +137,39 @@ pub fn read_burst<'a>(
     match skip(others, b")") {
         Some(rest) if names.len() > 1 => Ok((names, rest)),
         _ => Err(FormRefusal::NotThisForm),
+    }
+}
+
+/// The inputs and the outputs of a text of the form, each at most `most`.
+#[tactic(auto, unfolding(crate::specs::FormParse::form_at))]
+pub fn read_parts(
+    alloc: Global,
+    bytes: &[u8],
+    most: usize,
+) -> Result<(Vec<Name>, Vec<Name>), FormRefusal>
+    ensures ok { IfOk result (λ parts. form_at most bytes.now ≡ Some (parts.0.items, parts.1.items)) }
+    ensures refused { result ≡ Err FormRefusal.NotThisForm → form_at most bytes.now ≡ None }
+{
+    let Some(inner) = skip(bytes, b"main := pref*[") else {
+        return Err(FormRefusal::NotThisForm);
+    };
+    let (ins, others) = read_burst(alloc, inner, b"?", most)?;
+    let Some(second) = skip(others, b";") else {
+        return Err(FormRefusal::NotThisForm);
+    };
+    let (outs, others) = read_burst(alloc, second, b"!", most)?;
+    match skip(others, b"].") {
+        Some(end) if is_end(end) => Ok((ins, outs)),
+        _ => Err(FormRefusal::NotThisForm),
+    }
+}
+
+fn is_end(bytes: &[u8]) -> bool
+    ensures { result ≡ spec_form.is_end bytes.now }
+{
+    match bytes {
+        [] => true,
+        [byte] => *byte == b'\n',
+        _ => false,
     }
 }
