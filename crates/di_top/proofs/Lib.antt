@@ -5,3 +5,4 @@ pub mod JoinNet
 pub mod FormNet
 pub mod Parsing
 pub mod FormProofs
+pub mod FormShapes
