@@ -3,3 +3,6 @@ pub mod FormPorts
 pub mod OneNet
 pub mod JoinNet
 pub mod FormNet
+pub mod Parsing
+pub mod FormProofs
+pub mod FormShapes

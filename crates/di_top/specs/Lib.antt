@@ -1,4 +1,5 @@
 pub mod FormText
 pub mod FormNets
+pub mod FormParse
 pub mod FormRead
 pub mod NetText

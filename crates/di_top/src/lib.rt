@@ -3,3 +3,4 @@
 
 mod form;
 mod network;
+mod parse;

@@ -1,9 +1,14 @@
-ghost use Rattle.std.specs.Prelude.{◌≡◌, ◌+◌, ◌<◌, ◌≤◌, length, IfOk};
+ghost use Rattle.std.specs.Prelude.{◌≡◌, ◌+◌, ◌<◌, ◌≤◌, ◌^◌, ◌∷◌, [], ◌++◌, length, IfOk, OnOk};
+ghost use Rattle.std.specs.List.{AllByRecursion, range_with_len};
+ghost use Rattle.net_core.specs.Wiring.{Fits};
+ghost use Rattle.di_top.specs.FormNets as shape;
 ghost use Rattle.di_top.specs.FormNets.{form_net};
 ghost use Rattle.di_top.specs.FormRead.{IsFormed};
 
 use crate::form::Form;
-use net_core::Net;
+use basic_kinds::Kind;
+use cmd_tree::Command;
+use net_core::{Net, NetBuilder, NodeSpec};
 use std::alloc::{AllocError, Global};
 
 /// The network of a text of the form: a WIRE, a C, a FORK, or a C and a FORK.
@@ -11,7 +16,67 @@ pub fn build_net(alloc: Global, form: Form) -> Result<Net, AllocError>
     requires { IsFormed form }
     ensures { IfOk result (λ net. net ≡ form_net form.command form.inputs form.outputs) }
 {
-    let _ = alloc;
-    let _ = form;
-    Err(AllocError)
+    let Form {
+        command,
+        inputs,
+        outputs,
+    } = form;
+    match (inputs, outputs) {
+        (1, 1) => one_net(alloc, command, Kind::Wire, 2),
+        (1, _) => one_net(alloc, command, Kind::Fork(outputs), outputs + 1),
+        (_, 1) => one_net(alloc, command, Kind::C(inputs), inputs + 1),
+        _ => join_net(alloc, command, inputs, outputs),
+    }
+}
+
+/// One component, whose ports are joined to those of the environment in order.
+fn one_net(alloc: Global, command: Command, kind: Kind, wires: u32) -> Result<Net, AllocError>
+    requires fit { AllByRecursion (Fits wires) (shape.one_net command kind wires).nodes }
+    requires few { wires + 1 < 2 ^ 32 }
+    ensures { IfOk result (λ net. net ≡ shape.one_net command kind wires) }
+{
+    let mut builder = NetBuilder::new(alloc, NodeSpec::Cmd(command))?;
+    add_wires(&mut builder, wires)?;
+    builder.node(NodeSpec::Kind(kind), numbers(alloc, 0, wires)?)?;
+    builder.finish(numbers(alloc, 0, wires)?)
+}
+
+/// A C whose output is the input of a FORK.
+fn join_net(alloc: Global, command: Command, inputs: u32, outputs: u32) -> Result<Net, AllocError>
+    requires fit { AllByRecursion (Fits (inputs + outputs + 1)) (shape.join_net command inputs outputs).nodes }
+    requires few { inputs + outputs + 2 < 2 ^ 32 }
+    ensures { IfOk result (λ net. net ≡ shape.join_net command inputs outputs) }
+{
+    let between = inputs + outputs;
+    let mut builder = NetBuilder::new(alloc, NodeSpec::Cmd(command))?;
+    add_wires(&mut builder, between + 1)?;
+    let mut join_ends = numbers(alloc, 0, inputs)?;
+    join_ends.push(between)?;
+    builder.node(NodeSpec::Kind(Kind::C(inputs)), join_ends)?;
+    let mut fork_ends = vec![in alloc; between]?;
+    fork_ends.append(&mut numbers(alloc, inputs, outputs)?)?;
+    builder.node(NodeSpec::Kind(Kind::Fork(outputs)), fork_ends)?;
+    builder.finish(numbers(alloc, 0, between)?)
+}
+
+fn add_wires(builder: &mut NetBuilder, many: u32) -> Result<(), AllocError>
+    requires { builder.old.wires + many < 2 ^ 32 }
+    ensures { OnOk result (builder.new ≡ record builder.old { wires = builder.old.wires + many }) }
+{
+    for _wire in 0..many {
+        builder.wire()?;
+    }
+    Ok(())
+}
+
+/// So many numbers from one on.
+fn numbers(alloc: Global, from: u32, many: u32) -> Result<Vec<u32>, AllocError>
+    requires { from + many < 2 ^ 32 }
+    ensures { IfOk result (λ all. all.items ≡ range_with_len from many) }
+{
+    let mut all = Vec::new(alloc);
+    for count in 0..many {
+        all.push(from + count)?;
+    }
+    Ok(all)
 }
