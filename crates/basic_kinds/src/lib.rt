@@ -2,7 +2,9 @@
 #![tactic(auto)]
 
 mod kind;
+mod laws;
 mod shape;
 
 pub use kind::{Kind, ports};
+pub use laws::rounds_law;
 pub use shape::Shape;

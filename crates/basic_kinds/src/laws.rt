@@ -1,0 +1,58 @@
+//! Laws of the definitions in `specs/`. Each function is empty: its clauses are what it is for.
+ghost use Rattle.std.specs.Prelude.{◌≡◌, ◌↔◌, ℕ, ◌<◌, List};
+ghost use Rattle.cmd_tree.specs.Rounds.{Rounds};
+ghost use Rattle.basic_kinds.specs.KindTraces.{KindTrace};
+
+use crate::kind::Kind;
+
+/// A WIRE, a FORK and a C take all their inputs and then give all their outputs, again and again. So
+/// whether a trace is one of theirs is decided by how often each port has come before each port of it.
+pub fn rounds_law()
+    ensures wire { (t : List ℕ) → (KindTrace Kind.Wire t ↔ Rounds 1 1 t) }
+    ensures fork { (n : ℕ) (t : List ℕ) → 0 < n → (KindTrace (Kind.Fork n) t ↔ Rounds 1 n t) }
+    ensures join { (n : ℕ) (t : List ℕ) → 0 < n → (KindTrace (Kind.C n) t ↔ Rounds n 1 t) }
+{}
+
+#[cfg(test)]
+mod tests {
+    use crate::{Kind, Shape, ports};
+    use sqlite_items::Items;
+    use std::test::Fail;
+
+    // The law has nothing to run: this says that it may be called.
+    #[test]
+    fn laws_are_callable() {
+        super::rounds_law();
+    }
+
+    #[test]
+    fn ports_of_kinds(rt: HostRuntime) -> Result<(), Fail> {
+        let rows = [
+            (Kind::Wire, (1, 1)),
+            (Kind::Iwire, (1, 1)),
+            (Kind::Source, (0, 1)),
+            (Kind::Sink, (1, 0)),
+            (Kind::Fork(3), (1, 3)),
+            (Kind::C(2), (2, 1)),
+            (Kind::Merge(5), (5, 1)),
+            (Kind::Toggle, (1, 2)),
+            (Kind::Seq(2), (3, 2)),
+        ];
+        for (kind, numbers) in &rows {
+            assert_eq!(rt; ports(kind), *numbers);
+        }
+        Ok(())
+    }
+
+    #[test]
+    fn ports_of_a_decision_wait(rt: HostRuntime) -> Result<(), Fail> {
+        let cross = Items::from_vec(vec![in rt.alloc(); (0, 0), (1, 0), (2, 0)]?);
+        let shape = Shape {
+            rows: 3,
+            cols: 1,
+            cross,
+        };
+        assert_eq!(rt; ports(&Kind::Dw(shape)), (4, 3));
+        Ok(())
+    }
+}
