@@ -7,3 +7,5 @@ pub mod Falls
 pub mod Limits
 pub mod Meaning
 pub mod Residual
+pub mod Rounds
+pub mod RoundsProc

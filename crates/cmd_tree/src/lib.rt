@@ -5,11 +5,13 @@
 #![tactic(auto)]
 
 mod command;
+mod laws;
 mod marks;
 mod name;
 mod tree;
 
 pub use command::Command;
+pub use laws::{rounds_by_counts, traces_are_closed, traces_are_steps};
 pub use marks::all_marks;
 pub use name::{Name, NameSet};
 pub use tree::{Dir, Item, Mark, Proc, Seq, Sym};

@@ -1,4 +1,6 @@
 pub mod Counting
+pub mod Ends
+pub mod Found
 pub mod Tallying
 pub mod Drafts
 pub mod FirstMarks

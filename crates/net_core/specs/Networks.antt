@@ -33,6 +33,15 @@ abbrev pub may_of : Option Node → List ℕ → Type 0
 may_of None t = ⊥
 may_of (Some x) t = May x.spec t
 
+-- one of the ports in f is at the wire w, and no other
+abbrev pub Once : (ℕ → ℕ → Bool) → Circuit → ℕ → Type 0
+Once f c w = (n : ℕ) × (p : ℕ) × (f n p ≡ true) × (end_at c n p ≡ w)
+    × ((m q : ℕ) → f m q ≡ true → end_at c m q ≡ w → (m ≡ n) × (q ≡ p))
+
+-- each wire is at one output port and at one input port
+abbrev pub IsClosedByEnds : Circuit → Type 0
+IsClosedByEnds c = (w : ℕ) → w < c.wires → Once (gives c) c w × Once (takes c) c w
+
 -- of the ports in f, one of node n is at the wire w
 abbrev pub has_end : (ℕ → ℕ → Bool) → Circuit → ℕ → ℕ → Bool
 has_end f c w n = list_any (λ p. f n p && nat_eq (end_at c n p) w) (range_with_len 0 (length (directions c n)))

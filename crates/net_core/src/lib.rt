@@ -1,8 +1,10 @@
 //! Networks of components joined by wires, and what they do under any delays.
 #![tactic(auto)]
 
+mod laws;
 mod net;
 mod spec;
 
+pub use laws::closed_law;
 pub use net::{Net, NetBuilder, Node, OpenPort, closed};
 pub use spec::{NodeSpec, directions};

@@ -1,0 +1,63 @@
+-- The directions of the symbols of a command of the form: n inputs, and then m outputs.
+use Rattle.std.proofs.Common.{◌≡◌, ℕ, zero, suc, ◌+◌, ◌<◌, ◌≤◌, Bool, true, false, List, [], ◌∷◌, ◌++◌, map, length, replicate, refl, ap, ◌∙◌, inl, inr, arith, length-append, append-nil}
+use Rattle.std.specs.List.{range_with_len}
+use Rattle.std.proofs.lemmas.List.{map-append}
+use Rattle.std.proofs.lemmas.Bool.{cases_eq}
+use Rattle.std.proofs.Common.{eq-eqb, ne_eqb}
+use Rattle.cmd_tree.specs.declared.command.Command.{Command}
+use Rattle.cmd_tree.specs.declared.tree.Mark.{Mark}
+use Rattle.cmd_tree.specs.Limits.{marks_of_all}
+use Rattle.basic_kinds.specs.KindTraces.{taken, given, again, all_then_all}
+use Rattle.net_core.specs.declared.spec.NodeSpec.TheVariants.{Cmd}
+use Rattle.net_core.specs.Specs.{gives_symbol, sides, outs_of}
+use Rattle.di_top.specs.FormText.{IsFormCommand}
+use Rattle.di_top.proofs.Sides.{range_split}
+
+-- the marks of inputs from a on
+symbol_taken : (a k x : ℕ) (rest : List Mark) → a ≤ x → x < a + k → gives_symbol (map taken (range_with_len a k) ++ rest) x ≡ false
+symbol_taken a zero x rest low high = absurd (omega arith)
+symbol_taken a (suc k) x rest low high = elim (cases_eq a x) [
+  | inl e ↦ rw (eq-eqb a x e) refl
+  | inr ne ↦ rw (ne_eqb a x ne) (symbol_taken (a + 1) k x rest (omega arith) (omega arith))
+]
+
+symbol_later : (a k x : ℕ) (rest : List Mark) → a + k ≤ x → gives_symbol (map taken (range_with_len a k) ++ rest) x ≡ gives_symbol rest x
+symbol_later a zero x rest past = refl
+symbol_later a (suc k) x rest past = rw (ne_eqb a x (omega arith)) (symbol_later (a + 1) k x rest (omega arith))
+
+symbol_given : (a k x : ℕ) (rest : List Mark) → a ≤ x → x < a + k → gives_symbol (map given (range_with_len a k) ++ rest) x ≡ true
+symbol_given a zero x rest low high = absurd (omega arith)
+symbol_given a (suc k) x rest low high = elim (cases_eq a x) [
+  | inl e ↦ rw (eq-eqb a x e) refl
+  | inr ne ↦ rw (ne_eqb a x ne) (symbol_given (a + 1) k x rest (omega arith) (omega arith))
+]
+
+abbrev form_marks : ℕ → ℕ → List Mark
+form_marks n m = map taken (range_with_len 0 n) ++ (map given (range_with_len n m) ++ [])
+
+marks_are : (n m : ℕ) → marks_of_all (again (all_then_all n m) ∷ []) ≡ form_marks n m
+marks_are n m = append-nil (form_marks n m)
+
+constant : (f : ℕ → Bool) (a k : ℕ) (b : Bool) → ((x : ℕ) → a ≤ x → x < a + k → f x ≡ b) → map f (range_with_len a k) ≡ replicate k b
+constant f a zero b h = refl
+constant f a (suc k) b h =
+    ap (λ (d : Bool). d ∷ map f (range_with_len (a + 1) k)) (h a (omega arith) (omega arith))
+    ∙ ap (λ (l : List Bool). b ∷ l) (constant f (a + 1) k b (λ x low high. h x (omega arith) (omega arith)))
+
+form_sides : (n m : ℕ) → map (gives_symbol (form_marks n m)) (range_with_len 0 (n + m)) ≡ sides n m
+form_sides n m =
+    ap (map (gives_symbol (form_marks n m))) (range_split n m)
+    ∙ map-append (gives_symbol (form_marks n m)) (range_with_len 0 n) (range_with_len n m)
+    ∙ ap (λ (l : List Bool). l ++ map (gives_symbol (form_marks n m)) (range_with_len n m))
+    (constant (gives_symbol (form_marks n m)) 0 n false (λ x low high. symbol_taken 0 n x (map given (range_with_len n m) ++ []) low high))
+    ∙ ap (λ (l : List Bool). replicate n false ++ l)
+    (constant (gives_symbol (form_marks n m)) n m true
+    (λ x low high. symbol_later 0 n x (map given (range_with_len n m) ++ []) (omega arith) ∙ symbol_given n m x [] low high))
+
+-- the symbols of a command of the form are its inputs and then its outputs
+pub form_outs : (c : Command) (ins outs : List (List ℕ)) → IsFormCommand c ins outs → outs_of (Cmd c) ≡ sides (length ins) (length outs)
+form_outs c ins outs form =
+    ap (λ ps. map (gives_symbol (marks_of_all ps)) (range_with_len 0 (length c.names))) form.procs
+    ∙ ap (λ ms. map (gives_symbol ms) (range_with_len 0 (length c.names))) (marks_are (length ins) (length outs))
+    ∙ ap (λ (k : ℕ). map (gives_symbol (form_marks (length ins) (length outs))) (range_with_len 0 k)) (ap (λ (l : List (List ℕ)). length l) form.names ∙ length-append ins outs)
+    ∙ form_sides (length ins) (length outs)
