@@ -7,3 +7,5 @@ pub mod Phases
 pub mod RoundsSteps
 pub mod RoundsTraces
 pub mod RoundsPorts
+pub mod Depths
+pub mod EqualTrees
