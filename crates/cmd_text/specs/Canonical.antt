@@ -10,45 +10,53 @@ abbrev pub sign : Dir → List ℕ
 sign Input = codes "?"
 sign Output = codes "!"
 
--- a name and its mark
+-- a name and its sign
 abbrev pub mark_text : List (List ℕ) → Mark → List ℕ
 mark_text names m = slice_index_or names m.sym.0 [] ++ sign m.dir
 
--- marks joined by two bars
-abbrev pub marks_text : List (List ℕ) → List Mark → List ℕ
-marks_text names [] = []
-marks_text names (m ∷ []) = mark_text names m
-marks_text names (m ∷ n ∷ ms) = mark_text names m ++ codes "||" ++ marks_text names (n ∷ ms)
+-- marks, of which the first is led by the text `led` and each other one by two bars
+abbrev pub marks_led : List (List ℕ) → List ℕ → List Mark → List ℕ
+marks_led names led [] = []
+marks_led names led (m ∷ ms) = led ++ mark_text names m ++ marks_led names (codes "||") ms
 
--- a burst: one mark as it is, more in round brackets
+-- a burst: one mark as it is; more are joined by two bars, in round brackets
 abbrev pub burst_text : List (List ℕ) → List Mark → List ℕ
 burst_text names [] = []
 burst_text names (m ∷ []) = mark_text names m
-burst_text names (m ∷ n ∷ ms) = codes "(" ++ marks_text names (m ∷ n ∷ ms) ++ codes ")"
+burst_text names (m ∷ n ∷ ms) = codes "(" ++ marks_led names [] (m ∷ n ∷ ms) ++ codes ")"
 
 abbrev mutual
-  -- items joined by semicolons
-  pub seq_text : List (List ℕ) → TSeq → List ℕ
-  seq_text names Done = []
-  seq_text names (Then i Done) = item_text names i
-  seq_text names (Then i (Then j s)) = item_text names i ++ codes ";" ++ seq_text names (Then j s)
+  -- items, of which the first is led by the text `led` and each other one by a semicolon
+  pub items_led : List (List ℕ) → List ℕ → TSeq → List ℕ
+  items_led names led Done = []
+  items_led names led (Then i s) = led ++ item_text names i ++ items_led names (codes ";") s
 
   pub item_text : List (List ℕ) → TItem → List ℕ
   item_text names (TBurst ms) = burst_text names ms
-  item_text names (TAlt ss) = codes "(" ++ seqs_text names ss ++ codes ")"
+  item_text names (TAlt ss) = codes "(" ++ seqs_led names [] ss ++ codes ")"
 
-  -- alternatives joined by bars
-  pub seqs_text : List (List ℕ) → TSeqs → List ℕ
-  seqs_text names Stop = []
-  seqs_text names (Or s Stop) = seq_text names s
-  seqs_text names (Or s (Or t ss)) = seq_text names s ++ codes "|" ++ seqs_text names (Or t ss)
+  -- alternatives, of which the first is led by the text `led` and each other one by a bar
+  pub seqs_led : List (List ℕ) → List ℕ → TSeqs → List ℕ
+  seqs_led names led Stop = []
+  seqs_led names led (Or s ss) = led ++ items_led names [] s ++ seqs_led names (codes "|") ss
 
--- a body that is one choice alone is written without its round brackets
+-- items joined by semicolons
+abbrev pub seq_text : List (List ℕ) → TSeq → List ℕ
+seq_text names s = items_led names [] s
+
+-- alternatives joined by bars
+abbrev pub seqs_text : List (List ℕ) → TSeqs → List ℕ
+seqs_text names ss = seqs_led names [] ss
+
+-- an item alone in a body: a choice has no round brackets there
+abbrev pub bare_text : List (List ℕ) → TItem → List ℕ
+bare_text names (TBurst ms) = burst_text names ms
+bare_text names (TAlt ss) = seqs_text names ss
+
 abbrev pub body_text : List (List ℕ) → TSeq → List ℕ
-body_text names (Then (TAlt ss) Done) = seqs_text names ss
-body_text names (Then (TAlt ss) (Then i s)) = seq_text names (Then (TAlt ss) (Then i s))
-body_text names (Then (TBurst ms) s) = seq_text names (Then (TBurst ms) s)
 body_text names Done = []
+body_text names (Then i Done) = bare_text names i
+body_text names (Then i (Then j s)) = seq_text names (Then i (Then j s))
 
 -- a body that is to be repeated
 abbrev pub star_text : List (List ℕ) → TSeq → List ℕ
@@ -64,8 +72,11 @@ parts_text names (Some l) (Some s) = codes "[" ++ seq_text names l ++ codes ";" 
 abbrev pub proc_text : List (List ℕ) → Proc → List ℕ
 proc_text names p = codes "pref" ++ parts_text names p.lead p.body
 
+-- processes, of which the first is led by the text `led` and each other one by two bars
+abbrev pub procs_led : List (List ℕ) → List ℕ → List Proc → List ℕ
+procs_led names led [] = []
+procs_led names led (p ∷ ps) = led ++ proc_text names p ++ procs_led names (codes "||") ps
+
 -- processes joined by two bars
 abbrev pub procs_text : List (List ℕ) → List Proc → List ℕ
-procs_text names [] = []
-procs_text names (p ∷ []) = proc_text names p
-procs_text names (p ∷ q ∷ ps) = proc_text names p ++ codes "||" ++ procs_text names (q ∷ ps)
+procs_text names ps = procs_led names [] ps

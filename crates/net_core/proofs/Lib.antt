@@ -14,3 +14,9 @@ pub mod Relabel
 pub mod RoundsRule
 pub mod Rounds
 pub mod RoundsNets
+pub mod Meets
+pub mod Renumbered
+pub mod ClosedByEnds
+pub mod Located
+pub mod Moved
+pub mod Reordered

@@ -1,5 +1,5 @@
 -- Networks as lists of nodes, each with one wire at each port. Node 0 is the environment.
-use Rattle.std.specs.Prelude.{◌≡◌, ℕ, suc, ◌<◌, Bool, true, false, not, if◌then◌else◌, nat_eq, List, [], ◌∷◌, ◌++◌, length}
+use Rattle.std.specs.Prelude.{◌≡◌, ℕ, suc, ◌<◌, Bool, true, false, not, if◌then◌else◌, nat_eq, List, [], ◌∷◌, ◌++◌, map, length}
 use Rattle.std.specs.List.{AllByRecursion}
 use Rattle.net_core.specs.declared.spec.NodeSpec.{NodeSpec}
 use Rattle.net_core.specs.Specs.{outs_of, IsFormed}
@@ -12,6 +12,10 @@ pub record Node : Type 0 where
 pub record Circuit : Type 0 where
   pub nodes : List Node
   pub wires : ℕ
+
+-- a node with other numbers for its wires
+abbrev pub moved : (ℕ → ℕ) → Node → Node
+moved f x = record { spec = x.spec; ends = map f x.ends }
 
 -- how often a wire stands in a list
 unfoldable pub count : ℕ → List ℕ → ℕ

@@ -1,0 +1,267 @@
+ghost use Rattle.std.specs.Prelude.{◌≡◌, ◌≤◌, ◌++◌, [], Some, codes, slice_index_or, IfOk, OnOk, OnErr};
+ghost use Rattle.cmd_tree.specs.View.{item_of, seqs_of};
+ghost use Rattle.di_io.specs.Faults.{Rose};
+ghost use Rattle.di_io.specs.Written.{Gains, GainsFront};
+ghost use Rattle.cmd_text.specs.Canonical.{sign, mark_text, marks_led, burst_text, seq_text, item_text, seqs_text, bare_text, body_text, star_text, parts_text, proc_text, procs_text};
+
+use cmd_tree::{Command, Dir, Item, Mark, NameSet, Proc, Seq, Sym};
+use di_io::{NoMemory, PutFault, Sink};
+use std::alloc::{AllocError, Global};
+
+/// Puts the canonical text of a command: one line without blanks. It takes no memory.
+///
+/// `Failed` where the sink failed: then a front of the text was put.
+pub fn put_command<S: Sink>(command: &Command, sink: &mut S) -> Result<(), PutFault>
+    ensures later { S.faults sink.old ≤ S.faults sink.new }
+    ensures ok { OnOk result (Gains (S.written sink.old) (S.written sink.new) (procs_text command.now.names command.now.procs)) }
+    ensures failed { OnErr result (Rose (S.faults sink.old) (S.faults sink.new)) }
+    ensures front { OnErr result (GainsFront (S.written sink.old) (S.written sink.new) (procs_text command.now.names command.now.procs)) }
+{
+    put_procs(&command.names, command.procs.as_slice(), sink)
+}
+
+fn put_procs<S: Sink>(names: &NameSet, procs: &[Proc], sink: &mut S) -> Result<(), PutFault>
+    ensures later { S.faults sink.old ≤ S.faults sink.new }
+    ensures ok { OnOk result (Gains (S.written sink.old) (S.written sink.new) (procs_text names.now procs.now)) }
+    ensures failed { OnErr result (Rose (S.faults sink.old) (S.faults sink.new)) }
+    ensures front { OnErr result (GainsFront (S.written sink.old) (S.written sink.new) (procs_text names.now procs.now)) }
+{
+    let mut led: &[u8] = b"";
+    for process in procs {
+        sink.put(led)?;
+        put_proc(names, process, sink)?;
+        led = b"||";
+    }
+    Ok(())
+}
+
+fn put_proc<S: Sink>(names: &NameSet, process: &Proc, sink: &mut S) -> Result<(), PutFault>
+    ensures later { S.faults sink.old ≤ S.faults sink.new }
+    ensures ok { OnOk result (Gains (S.written sink.old) (S.written sink.new) (proc_text names.now process.now)) }
+    ensures failed { OnErr result (Rose (S.faults sink.old) (S.faults sink.new)) }
+    ensures front { OnErr result (GainsFront (S.written sink.old) (S.written sink.new) (proc_text names.now process.now)) }
+{
+    sink.put(b"pref")?;
+    match (&process.lead, &process.body) {
+        (None, None) => Ok(()),
+        (None, Some(body)) => put_star(names, body, sink),
+        (Some(lead), None) => put_lead(names, lead, sink),
+        (Some(lead), Some(body)) => put_lead_and_star(names, lead, body, sink),
+    }
+}
+
+fn put_lead<S: Sink>(names: &NameSet, lead: &Seq, sink: &mut S) -> Result<(), PutFault>
+    ensures later { S.faults sink.old ≤ S.faults sink.new }
+    ensures ok { OnOk result (Gains (S.written sink.old) (S.written sink.new) (codes "[" ++ seq_text names.now lead.now ++ codes "]")) }
+    ensures failed { OnErr result (Rose (S.faults sink.old) (S.faults sink.new)) }
+    ensures front { OnErr result (GainsFront (S.written sink.old) (S.written sink.new) (codes "[" ++ seq_text names.now lead.now ++ codes "]")) }
+{
+    sink.put(b"[")?;
+    put_seq(names, lead, sink)?;
+    sink.put(b"]")
+}
+
+fn put_lead_and_star<S: Sink>(
+    names: &NameSet,
+    lead: &Seq,
+    body: &Seq,
+    sink: &mut S,
+) -> Result<(), PutFault>
+    ensures later { S.faults sink.old ≤ S.faults sink.new }
+    ensures ok { OnOk result (Gains (S.written sink.old) (S.written sink.new) (codes "[" ++ seq_text names.now lead.now ++ codes ";" ++ star_text names.now body.now ++ codes "]")) }
+    ensures failed { OnErr result (Rose (S.faults sink.old) (S.faults sink.new)) }
+    ensures front { OnErr result (GainsFront (S.written sink.old) (S.written sink.new) (codes "[" ++ seq_text names.now lead.now ++ codes ";" ++ star_text names.now body.now ++ codes "]")) }
+{
+    sink.put(b"[")?;
+    put_seq(names, lead, sink)?;
+    sink.put(b";")?;
+    put_star(names, body, sink)?;
+    sink.put(b"]")
+}
+
+fn put_star<S: Sink>(names: &NameSet, body: &Seq, sink: &mut S) -> Result<(), PutFault>
+    ensures later { S.faults sink.old ≤ S.faults sink.new }
+    ensures ok { OnOk result (Gains (S.written sink.old) (S.written sink.new) (star_text names.now body.now)) }
+    ensures failed { OnErr result (Rose (S.faults sink.old) (S.faults sink.new)) }
+    ensures front { OnErr result (GainsFront (S.written sink.old) (S.written sink.new) (star_text names.now body.now)) }
+{
+    sink.put(b"*[")?;
+    put_body(names, body, sink)?;
+    sink.put(b"]")
+}
+
+// A body that is one choice alone has no round brackets.
+fn put_body<S: Sink>(names: &NameSet, body: &Seq, sink: &mut S) -> Result<(), PutFault>
+    ensures later { S.faults sink.old ≤ S.faults sink.new }
+    ensures ok { OnOk result (Gains (S.written sink.old) (S.written sink.new) (body_text names.now body.now)) }
+    ensures failed { OnErr result (Rose (S.faults sink.old) (S.faults sink.new)) }
+    ensures front { OnErr result (GainsFront (S.written sink.old) (S.written sink.new) (body_text names.now body.now)) }
+{
+    match body.items.as_slice() {
+        [] => Ok(()),
+        [item] => put_bare(names, item, sink),
+        _ => put_seq(names, body, sink),
+    }
+}
+
+fn put_bare<S: Sink>(names: &NameSet, item: &Item, sink: &mut S) -> Result<(), PutFault>
+    ensures later { S.faults sink.old ≤ S.faults sink.new }
+    ensures ok { OnOk result (Gains (S.written sink.old) (S.written sink.new) (bare_text names.now (item_of item.now))) }
+    ensures failed { OnErr result (Rose (S.faults sink.old) (S.faults sink.new)) }
+    ensures front { OnErr result (GainsFront (S.written sink.old) (S.written sink.new) (bare_text names.now (item_of item.now))) }
+{
+    match item {
+        Item::Burst(marks) => put_burst(names, marks.as_slice(), sink),
+        Item::Alt(seqs) => put_seqs(names, seqs.as_slice(), sink),
+    }
+}
+
+fn put_seqs<S: Sink>(names: &NameSet, seqs: &[Seq], sink: &mut S) -> Result<(), PutFault>
+    ensures later { S.faults sink.old ≤ S.faults sink.new }
+    ensures ok { OnOk result (Gains (S.written sink.old) (S.written sink.new) (seqs_text names.now (seqs_of seqs.now))) }
+    ensures failed { OnErr result (Rose (S.faults sink.old) (S.faults sink.new)) }
+    ensures front { OnErr result (GainsFront (S.written sink.old) (S.written sink.new) (seqs_text names.now (seqs_of seqs.now))) }
+{
+    let mut led: &[u8] = b"";
+    for seq in seqs {
+        sink.put(led)?;
+        put_seq(names, seq, sink)?;
+        led = b"|";
+    }
+    Ok(())
+}
+
+#[cycle(put)]
+fn put_seq<S: Sink>(names: &NameSet, seq: &Seq, sink: &mut S) -> Result<(), PutFault>
+    ensures later { S.faults sink.old ≤ S.faults sink.new }
+    ensures ok { OnOk result (Gains (S.written sink.old) (S.written sink.new) (seq_text names.now seq.now)) }
+    ensures failed { OnErr result (Rose (S.faults sink.old) (S.faults sink.new)) }
+    ensures front { OnErr result (GainsFront (S.written sink.old) (S.written sink.new) (seq_text names.now seq.now)) }
+{
+    let mut led: &[u8] = b"";
+    for item in seq.items.as_slice() {
+        sink.put(led)?;
+        put_item(names, item, sink)?;
+        led = b";";
+    }
+    Ok(())
+}
+
+#[cycle(put)]
+fn put_item<S: Sink>(names: &NameSet, item: &Item, sink: &mut S) -> Result<(), PutFault>
+    ensures later { S.faults sink.old ≤ S.faults sink.new }
+    ensures ok { OnOk result (Gains (S.written sink.old) (S.written sink.new) (item_text names.now (item_of item.now))) }
+    ensures failed { OnErr result (Rose (S.faults sink.old) (S.faults sink.new)) }
+    ensures front { OnErr result (GainsFront (S.written sink.old) (S.written sink.new) (item_text names.now (item_of item.now))) }
+{
+    match item {
+        Item::Burst(marks) => put_burst(names, marks.as_slice(), sink),
+        Item::Alt(seqs) => {
+            sink.put(b"(")?;
+            let mut led: &[u8] = b"";
+            for seq in seqs.as_slice() {
+                sink.put(led)?;
+                put_seq(names, seq, sink)?;
+                led = b"|";
+            }
+            sink.put(b")")
+        }
+    }
+}
+
+fn put_burst<S: Sink>(names: &NameSet, marks: &[Mark], sink: &mut S) -> Result<(), PutFault>
+    ensures later { S.faults sink.old ≤ S.faults sink.new }
+    ensures ok { OnOk result (Gains (S.written sink.old) (S.written sink.new) (burst_text names.now marks.now)) }
+    ensures failed { OnErr result (Rose (S.faults sink.old) (S.faults sink.new)) }
+    ensures front { OnErr result (GainsFront (S.written sink.old) (S.written sink.new) (burst_text names.now marks.now)) }
+{
+    match marks {
+        [] => Ok(()),
+        [mark] => put_mark(names, mark, sink),
+        _ => {
+            sink.put(b"(")?;
+            put_marks(names, marks, sink)?;
+            sink.put(b")")
+        }
+    }
+}
+
+fn put_marks<S: Sink>(names: &NameSet, marks: &[Mark], sink: &mut S) -> Result<(), PutFault>
+    ensures later { S.faults sink.old ≤ S.faults sink.new }
+    ensures ok { OnOk result (Gains (S.written sink.old) (S.written sink.new) (marks_led names.now [] marks.now)) }
+    ensures failed { OnErr result (Rose (S.faults sink.old) (S.faults sink.new)) }
+    ensures front { OnErr result (GainsFront (S.written sink.old) (S.written sink.new) (marks_led names.now [] marks.now)) }
+{
+    let mut led: &[u8] = b"";
+    for mark in marks {
+        sink.put(led)?;
+        put_mark(names, mark, sink)?;
+        led = b"||";
+    }
+    Ok(())
+}
+
+fn put_mark<S: Sink>(names: &NameSet, mark: &Mark, sink: &mut S) -> Result<(), PutFault>
+    ensures later { S.faults sink.old ≤ S.faults sink.new }
+    ensures ok { OnOk result (Gains (S.written sink.old) (S.written sink.new) (mark_text names.now mark.now)) }
+    ensures failed { OnErr result (Rose (S.faults sink.old) (S.faults sink.new)) }
+    ensures front { OnErr result (GainsFront (S.written sink.old) (S.written sink.new) (mark_text names.now mark.now)) }
+{
+    sink.put(name_bytes(names, mark.sym))?;
+    sink.put(sign_bytes(mark.dir))
+}
+
+fn name_bytes(names: &NameSet, sym: Sym) -> &[u8]
+    ensures { result.now ≡ slice_index_or names.now sym.0 [] }
+{
+    match names.get(sym.0 as usize) {
+        Some(name) => name.bytes(),
+        None => &[],
+    }
+}
+
+fn sign_bytes(dir: Dir) -> &'static [u8]
+    ensures { result.now ≡ sign dir }
+{
+    match dir {
+        Dir::Input => b"?",
+        Dir::Output => b"!",
+    }
+}
+
+/// The canonical text of a command: one line without blanks.
+pub fn write_command(alloc: Global, command: &Command) -> Result<Vec<u8>, NoMemory>
+    ensures { IfOk result (λ text. text.items ≡ procs_text command.now.names command.now.procs) }
+{
+    let mut sink = VecSink {
+        bytes: Vec::new(alloc),
+        refusals: 0,
+    };
+    match put_command(command, &mut sink) {
+        Ok(()) => Ok(sink.bytes),
+        Err(PutFault::Failed) => Err(AllocError),
+    }
+}
+
+// Bytes in memory, as a sink. A put fails exactly where memory is refused.
+#[derive(Drop)]
+struct VecSink {
+    bytes: Vec<u8>,
+    refusals: u64,
+}
+
+impl Sink for VecSink {
+    ghost written = { λ sink. Some sink.bytes.items };
+
+    ghost faults = { λ sink. sink.refusals };
+
+    fn put(&mut self, bytes: &[u8]) -> Result<(), PutFault> {
+        match self.bytes.extend_from_slice(bytes) {
+            Ok(()) => Ok(()),
+            Err(_) => {
+                self.refusals = self.refusals.saturating_add(1);
+                Err(PutFault::Failed)
+            }
+        }
+    }
+}

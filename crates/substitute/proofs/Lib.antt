@@ -1,0 +1,9 @@
+pub mod Follows
+pub mod Fused
+pub mod JoinedExact
+pub mod JoinedSound
+pub mod Joins
+pub mod Places
+pub mod Ranks
+pub mod Spliced
+pub mod SplicedNet
