@@ -3,3 +3,9 @@ pub mod FormPorts
 pub mod OneNet
 pub mod JoinNet
 pub mod FormNet
+pub mod Puts
+pub mod Lines
+pub mod FormLengths
+pub mod Compiling
+pub mod Reasons
+pub mod Endings
