@@ -3,3 +3,14 @@ pub mod FormNets
 pub mod FormParse
 pub mod FormRead
 pub mod NetText
+pub mod Say
+pub mod Requests
+pub mod Calls
+pub mod Asked
+pub mod Netlists
+pub mod Plans
+pub mod CompileForm
+pub mod Outcomes
+pub mod Promised
+pub mod Ends
+pub mod Headline

@@ -2,5 +2,19 @@
 #![tactic(auto)]
 
 mod form;
+mod laws;
+mod load;
+mod netlist;
 mod network;
 mod parse;
+mod outcome;
+mod plan;
+mod say;
+#[cfg(test)]
+mod tests;
+mod top;
+mod words;
+
+pub use laws::compile_law;
+pub use outcome::{Outcome, Why};
+pub use top::run;

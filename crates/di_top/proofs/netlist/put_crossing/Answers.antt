@@ -1,0 +1,15 @@
+use Rattle.std.specs.Prelude.{codes, decimal}
+use Rattle.di_top.proofs.Puts.{front_more, front_then, gains_then, ok_then, err_then, on_err}
+use Rattle.di_top.proofs.netlist.put_crossing.Goals as goal
+
+pub returns-in_err-put_number-clause-front : goal.returns-in_err-put_number-clause-front
+returns-in_err-put_number-clause-front g c = on_err _ _ (front_more _ _ _ (decimal c.args.column) (front_more _ _ _ (codes ".") c.in_err-put_number.ensures.front))
+
+pub returns-in_err-put-clause-front : goal.returns-in_err-put-clause-front
+returns-in_err-put-clause-front g c = on_err _ _ (front_more _ _ _ (decimal c.args.column) (front_then _ _ _ _ _ c.in_ok-put_number.ensures.ok c.in_err-put.ensures.front))
+
+pub returns-clause-ok : goal.returns-clause-ok
+returns-clause-ok g c = ok_then _ _ _ _ _ _ (gains_then _ _ _ _ _ c.in_ok-put_number.ensures.ok c.in_ok-put.ensures.ok) c.put_decimal.ensures.ok
+
+pub returns-clause-front : goal.returns-clause-front
+returns-clause-front g c = err_then _ _ _ _ _ _ (gains_then _ _ _ _ _ c.in_ok-put_number.ensures.ok c.in_ok-put.ensures.ok) c.put_decimal.ensures.front

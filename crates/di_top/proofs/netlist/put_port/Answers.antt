@@ -1,0 +1,25 @@
+use Rattle.std.specs.Prelude.{codes, decimal}
+use Rattle.di_top.specs.NetText.{mark_sign}
+use Rattle.di_top.proofs.Puts.{front_more, front_then, gains_then, ok_then, err_then, on_err}
+use Rattle.di_top.proofs.netlist.put_port.Goals as goal
+
+pub returns-in_err-put-clause-front : goal.returns-in_err-put-clause-front
+returns-in_err-put-clause-front g c = on_err _ _ (front_more _ _ _ (codes "\n") (front_more _ _ _ (decimal c.args.index) (front_more _ _ _ (codes " ") (front_more _ _ _ (mark_sign c.args.output) (front_more _ _ _ c.args.name.now c.in_err-put.ensures.front)))))
+
+pub returns-in_err-put_name-clause-front : goal.returns-in_err-put_name-clause-front
+returns-in_err-put_name-clause-front g c = on_err _ _ (front_more _ _ _ (codes "\n") (front_more _ _ _ (decimal c.args.index) (front_more _ _ _ (codes " ") (front_more _ _ _ (mark_sign c.args.output) (front_then _ _ _ _ _ c.in_ok-put.ensures.ok c.in_err-put_name.ensures.front)))))
+
+pub returns-in_err-put_sign-clause-front : goal.returns-in_err-put_sign-clause-front
+returns-in_err-put_sign-clause-front g c = on_err _ _ (front_more _ _ _ (codes "\n") (front_more _ _ _ (decimal c.args.index) (front_more _ _ _ (codes " ") (front_then _ _ _ _ _ (gains_then _ _ _ _ _ c.in_ok-put.ensures.ok c.in_ok-put_name.ensures.ok) c.in_err-put_sign.ensures.front))))
+
+pub returns-in_err-put-2-clause-front : goal.returns-in_err-put-2-clause-front
+returns-in_err-put-2-clause-front g c = on_err _ _ (front_more _ _ _ (codes "\n") (front_more _ _ _ (decimal c.args.index) (front_then _ _ _ _ _ (gains_then _ _ _ _ _ (gains_then _ _ _ _ _ c.in_ok-put.ensures.ok c.in_ok-put_name.ensures.ok) c.in_ok-put_sign.ensures.ok) c.in_err-put-2.ensures.front)))
+
+pub returns-in_err-put_decimal-clause-front : goal.returns-in_err-put_decimal-clause-front
+returns-in_err-put_decimal-clause-front g c = on_err _ _ (front_more _ _ _ (codes "\n") (front_then _ _ _ _ _ (gains_then _ _ _ _ _ (gains_then _ _ _ _ _ (gains_then _ _ _ _ _ c.in_ok-put.ensures.ok c.in_ok-put_name.ensures.ok) c.in_ok-put_sign.ensures.ok) c.in_ok-put-2.ensures.ok) c.in_err-put_decimal.ensures.front))
+
+pub returns-clause-ok : goal.returns-clause-ok
+returns-clause-ok g c = ok_then _ _ _ _ _ _ (gains_then _ _ _ _ _ (gains_then _ _ _ _ _ (gains_then _ _ _ _ _ (gains_then _ _ _ _ _ c.in_ok-put.ensures.ok c.in_ok-put_name.ensures.ok) c.in_ok-put_sign.ensures.ok) c.in_ok-put-2.ensures.ok) c.in_ok-put_decimal.ensures.ok) c.put-3.ensures.ok
+
+pub returns-clause-front : goal.returns-clause-front
+returns-clause-front g c = err_then _ _ _ _ _ _ (gains_then _ _ _ _ _ (gains_then _ _ _ _ _ (gains_then _ _ _ _ _ (gains_then _ _ _ _ _ c.in_ok-put.ensures.ok c.in_ok-put_name.ensures.ok) c.in_ok-put_sign.ensures.ok) c.in_ok-put-2.ensures.ok) c.in_ok-put_decimal.ensures.ok) c.put-3.ensures.front

@@ -1,0 +1,26 @@
+-- What each form of words answers, prints and admits: a case for each form.
+use Rattle.std.specs.Prelude.{◌≡◌, ◌⊎◌, ℕ, List, Option, Some, None}
+use Rattle.di_top.specs.declared.outcome.Outcome.{Outcome}
+use Rattle.di_top.specs.declared.outcome.Outcome.TheVariants.{Usage, NoMemory}
+use Rattle.di_top.specs.Requests.{Request, CompileWide}
+use Rattle.di_top.specs.Calls.{Reading}
+use Rattle.di_top.specs.CompileForm.{CompileGives, CompilePrints, CompileAdmits}
+
+-- the outcomes that the order of a form allows, want of memory and writing apart
+abbrev pub FormGives : Option Request → Reading → Outcome → Type 0
+FormGives None r outcome = outcome ≡ Usage
+FormGives (Some (CompileWide file)) r outcome = CompileGives r file outcome
+
+-- want of memory may be answered of any
+abbrev pub Gives : Option Request → Reading → Outcome → Type 0
+Gives request r outcome = (outcome ≡ NoMemory) ⊎ FormGives request r outcome
+
+-- what is printed where the form is done
+abbrev pub Prints : Option Request → Reading → List ℕ → Type 0
+Prints None r text = ⊥
+Prints (Some (CompileWide file)) r text = CompilePrints r file text
+
+-- the contents of the files for which the form is done
+abbrev pub Admits : Option Request → Reading → Type 0
+Admits None r = ⊥
+Admits (Some (CompileWide file)) r = CompileAdmits r file

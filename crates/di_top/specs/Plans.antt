@@ -1,0 +1,19 @@
+-- What a plan prints, and which outcomes end a call before it writes.
+use Rattle.std.specs.Prelude.{ℕ, List, ⊤}
+use Rattle.di_top.specs.declared.outcome.Outcome.{Outcome}
+use Rattle.di_top.specs.declared.outcome.Outcome.TheVariants.{Done, Refused, Usage, ReadFault, WriteFault, NoMemory}
+use Rattle.di_top.specs.declared.plan.Plan.{Plan}
+use Rattle.di_top.specs.declared.plan.Plan.TheVariants.{Compile}
+use Rattle.di_top.specs.NetText.{net_text}
+
+abbrev pub text_of : Plan → List ℕ
+text_of (Compile netlist) = net_text netlist.net
+
+-- an outcome that ends a call before anything is written
+abbrev pub IsStop : Outcome → Type 0
+IsStop Done = ⊥
+IsStop WriteFault = ⊥
+IsStop (Refused why) = ⊤
+IsStop Usage = ⊤
+IsStop (ReadFault file) = ⊤
+IsStop NoMemory = ⊤

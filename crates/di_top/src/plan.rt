@@ -1,0 +1,90 @@
+ghost use Rattle.std.specs.Prelude.{◌≡◌, ◌≤◌, ◌⊎◌, ℕ, List, IfOk, IfErr, OnOk, OnErr, Some};
+ghost use Rattle.di_io.specs.Faults.{Rose};
+ghost use Rattle.di_io.specs.Written.{Gains, GainsFront};
+ghost use Rattle.di_top.specs.Requests.{CompileWide as AskedWide};
+ghost use Rattle.di_top.specs.Asked.{meant};
+ghost use Rattle.di_top.specs.Calls.{reading};
+ghost use Rattle.di_top.specs.CompileForm.{Compiled};
+ghost use Rattle.di_top.specs.Outcomes.{Gives, Prints};
+ghost use Rattle.di_top.specs.FormRead.{IsRead, IsFormed};
+ghost use Rattle.di_top.specs.FormText.{IsFormText};
+ghost use Rattle.di_top.specs.Plans.{text_of, IsStop};
+
+use crate::form::{Form, FormRefusal, read_form};
+use crate::load::load_file;
+use crate::netlist::{Netlist, put_netlist};
+use crate::network::build_net;
+use crate::outcome::{Outcome, Why};
+use crate::words::Task;
+use di_io::{PutFault, Shelf, Sink};
+use std::alloc::{AllocError, Global};
+
+/// The most bytes of a command file that are loaded: one more than it may have.
+const COMMAND_CAP: usize = 1_048_577;
+
+/// What is to be printed. It owns all memory that printing needs.
+#[derive(Drop)]
+pub enum Plan {
+    Compile(Netlist),
+}
+
+/// Does all that a task asks for but its printing. On a failure that is no want of memory, the
+/// outcome is the first of the task's order.
+pub fn decide<F: Shelf>(alloc: Global, task: Task, shelf: &mut F) -> Result<Plan, Outcome>
+    ensures ok { IfOk result (λ plan. Gives (Some (meant task.entry)) (reading F.content F.faults shelf.old shelf.new) Outcome.Done
+        × Prints (Some (meant task.entry)) (reading F.content F.faults shelf.old shelf.new) (text_of plan)) }
+    ensures stop { IfErr result (λ stop. IsStop stop
+        × Gives (Some (meant task.entry)) (reading F.content F.faults shelf.old shelf.new) stop) }
+    ensures kept { (other : List ℕ) → F.content shelf.new other ≡ F.content shelf.old other }
+    ensures later { (other : List ℕ) → F.faults shelf.old other ≤ F.faults shelf.new other }
+{
+    match task {
+        Task::CompileWide { file } => plan_compile(alloc, file, shelf),
+    }
+}
+
+/// Puts the text of a plan. It takes no memory. After an error a front of it was put.
+pub fn put_plan<S: Sink>(plan: &Plan, sink: &mut S) -> Result<(), PutFault>
+    ensures later { S.faults sink.old ≤ S.faults sink.new }
+    ensures ok { OnOk result (Gains (S.written sink.old) (S.written sink.new) (text_of plan.now)) }
+    ensures failed { OnErr result (Rose (S.faults sink.old) (S.faults sink.new)) }
+    ensures front { OnErr result (GainsFront (S.written sink.old) (S.written sink.new) (text_of plan.now)) }
+{
+    match plan {
+        Plan::Compile(netlist) => put_netlist(netlist, sink),
+    }
+}
+
+fn plan_compile<F: Shelf>(alloc: Global, file: &str, shelf: &mut F) -> Result<Plan, Outcome>
+    ensures ok { IfOk result (λ plan. Gives (Some (AskedWide file.now)) (reading F.content F.faults shelf.old shelf.new) Outcome.Done
+        × Prints (Some (AskedWide file.now)) (reading F.content F.faults shelf.old shelf.new) (text_of plan)) }
+    ensures stop { IfErr result (λ stop. IsStop stop
+        × Gives (Some (AskedWide file.now)) (reading F.content F.faults shelf.old shelf.new) stop) }
+    ensures kept { (other : List ℕ) → F.content shelf.new other ≡ F.content shelf.old other }
+    ensures later { (other : List ℕ) → F.faults shelf.old other ≤ F.faults shelf.new other }
+{
+    let bytes = load_file(alloc, file, 1, COMMAND_CAP, shelf)?;
+    let form = read_command(alloc, &bytes)?;
+    let netlist = compile_form(alloc, form)?;
+    Ok(Plan::Compile(netlist))
+}
+
+fn read_command(alloc: Global, bytes: &[u8]) -> Result<Form, Outcome>
+    ensures ok { IfOk result (IsRead bytes.now) }
+    ensures stop { IfErr result (λ stop. (stop ≡ Outcome.NoMemory)
+        ⊎ ((stop ≡ Outcome.Refused Why.NotThisForm) × ((ins outs : List (List ℕ)) → IsFormText bytes.now ins outs → ⊥))) }
+{
+    match read_form(alloc, bytes) {
+        Ok(form) => Ok(form),
+        Err(FormRefusal::NotThisForm) => Err(Outcome::Refused(Why::NotThisForm)),
+        Err(FormRefusal::NoMemory) => Err(Outcome::NoMemory),
+    }
+}
+
+fn compile_form(alloc: Global, form: Form) -> Result<Netlist, AllocError>
+    requires { IsFormed form }
+    ensures { IfOk result (λ netlist. Compiled form netlist.net) }
+{
+    let net = build_net(alloc, form)?;
+    Netlist::new(alloc, net)
+}

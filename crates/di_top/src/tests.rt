@@ -1,0 +1,152 @@
+use crate::{Outcome, run};
+use di_io::{MemShelf, MemSink};
+use std::alloc::Global;
+use std::test::Fail;
+
+/// What a call did.
+#[derive(Drop)]
+struct Ran {
+    outcome: Outcome,
+    out: MemSink,
+    say: MemSink,
+}
+
+fn split_words(alloc: Global, text: &str) -> Result<Vec<String>, Fail> {
+    let mut words = Vec::new(alloc);
+    for word in text.split(' ') {
+        words.push(String::from_str(alloc, word)?)?;
+    }
+    Ok(words)
+}
+
+// Calls with these words. The file F has this content, or there is none. Puts on out fail as told.
+fn call(
+    alloc: Global,
+    words: &str,
+    content: Option<&str>,
+    fails: Vec<(u64, usize)>,
+) -> Result<Ran, Fail> {
+    let words = split_words(alloc, words)?;
+    let mut files = Vec::new(alloc);
+    if let Some(content) = content {
+        let name = String::from_str(alloc, "F")?;
+        files.push((name, Vec::from_slice(alloc, content.as_bytes())?))?;
+    }
+    let mut shelf = MemShelf::new(files, Vec::new(alloc));
+    let mut out = MemSink::new(alloc, 100_000, fails)?;
+    let mut say = MemSink::new(alloc, 1000, Vec::new(alloc))?;
+    let outcome = run(alloc, &words, &mut shelf, &mut out, &mut say);
+    Ok(Ran { outcome, out, say })
+}
+
+const USAGE: &str =
+    "usage: dic compile wide|two F, check F, count wide|two F, run N S [count|peak], drive N SEED STEPS, rules F, big N\n";
+
+// Calls in turn, each with the words, the content of F, what out and say gain, and the status.
+#[test]
+fn answers(rt: HostRuntime) -> Result<(), Fail> {
+    let alloc = rt.alloc();
+    let rows = [
+        (
+            "compile wide F",
+            Some("main := pref*[a?;b!]."),
+            "dinet 1\nspec pref*[a?;b!]\nport a? 0\nport b! 1\nWIRE 0 > 1\nend\n",
+            "",
+            0,
+        ),
+        (
+            "compile wide F",
+            Some("main := pref*[(a?||b?);(c!||d!)].\n"),
+            "dinet 1\nspec pref*[(a?||b?);(c!||d!)]\nport a? 0\nport b? 1\nport c! 2\nport d! 3\nC 0 1 > 4\nFORK 4 > 2 3\nend\n",
+            "",
+            0,
+        ),
+        (
+            "compile wide F",
+            Some("main := pref*[a?;(b!||c!)]."),
+            "dinet 1\nspec pref*[a?;(b!||c!)]\nport a? 0\nport b! 1\nport c! 2\nFORK 0 > 1 2\nend\n",
+            "",
+            0,
+        ),
+        (
+            "compile wide F",
+            Some("main := pref*[(a?||b?);c!]."),
+            "dinet 1\nspec pref*[(a?||b?);c!]\nport a? 0\nport b? 1\nport c! 2\nC 0 1 > 2\nend\n",
+            "",
+            0,
+        ),
+        (
+            "compile wide F",
+            Some("main := pref*[a?;a!]."),
+            "",
+            "refused form\n",
+            1,
+        ),
+        ("compile wide F", None, "", "read fault 1\n", 3),
+        (
+            "compile three F",
+            Some("main := pref*[a?;b!]."),
+            "",
+            USAGE,
+            2,
+        ),
+        ("compile wide", Some("main := pref*[a?;b!]."), "", USAGE, 2),
+    ];
+    for (words, content, out, say, status) in rows {
+        let ran = call(alloc, words, content, Vec::new(alloc))?;
+        assert!(rt; ran.out.bytes() == out.as_bytes(), "{words}");
+        assert!(rt; ran.say.bytes() == say.as_bytes(), "{words}");
+        assert_eq!(rt; ran.outcome.status(), status);
+    }
+    Ok(())
+}
+
+#[test]
+fn answers_a_failed_put(rt: HostRuntime) -> Result<(), Fail> {
+    let alloc = rt.alloc();
+    let fails = vec![in alloc; (1, 0)]?;
+    let ran = call(
+        alloc,
+        "compile wide F",
+        Some("main := pref*[a?;b!]."),
+        fails,
+    )?;
+    assert_eq!(rt; ran.outcome, Outcome::WriteFault);
+    assert_eq!(rt; ran.outcome.status(), 4);
+    assert!(rt; ran.out.bytes().is_empty());
+    assert!(rt; ran.say.bytes() == b"write fault\n".as_slice());
+    Ok(())
+}
+
+// Symbols with the mark, joined by two bars.
+fn push_burst(text: &mut String, first: u32, mark: char) -> Result<(), Fail> {
+    text.push('(')?;
+    for symbol in first..first + 512 {
+        if symbol > first {
+            text.push_str("||")?;
+        }
+        write!(text, "s{symbol}{mark}")?;
+    }
+    text.push(')')?;
+    Ok(())
+}
+
+// As many symbols as a command may have.
+#[test]
+fn compiles_many_symbols(rt: HostRuntime) -> Result<(), Fail> {
+    let alloc = rt.alloc();
+    let mut text = String::from_str(alloc, "main := pref*[")?;
+    push_burst(&mut text, 0, '?')?;
+    text.push(';')?;
+    push_burst(&mut text, 512, '!')?;
+    text.push_str("].")?;
+    let ran = call(
+        alloc,
+        "compile wide F",
+        Some(text.as_str()),
+        Vec::new(alloc),
+    )?;
+    assert_eq!(rt; ran.outcome, Outcome::Done);
+    assert!(rt; ran.say.bytes().is_empty());
+    Ok(())
+}
