@@ -27,13 +27,13 @@ pub not_distinct : (xs : List (List ℕ)) (y : List ℕ) (ys : List (List ℕ)) 
 unfolding IsDistinct
 not_distinct [] y ys any distinct = absurd (cc)
 not_distinct (x ∷ xs) y ys any distinct = elim (or_cases (bytes_eq y x) (list_any (bytes_eq y) xs) any) [
-    inl here ↦
+  | inl here ↦
       let same : y ≡ x = same_text y x (sym here) in
       let other : bytes_eq x y ≡ false = all_false_at x y xs ys distinct.0 in
       let bad : true ≡ false = sym here ∙ ap (λ (z : List ℕ). bytes_eq z x) same ∙ ap (bytes_eq x) (sym same) ∙ other in
       absurd (cc)
   | inr there ↦ not_distinct xs y ys there distinct.1
-  ]
+]
 
 -- marks numbered one after the other
 numbered_range : (f : ℕ → Mark) → ((p : ℕ) → (f p).sym.0 ≡ p) → (k n : ℕ) (rest : List Mark) (m : ℕ) → IsNumbered (k + n) rest m → IsNumbered k (map f (range_with_len k n) ++ rest) m
@@ -41,15 +41,17 @@ numbered_range f same k zero rest m h = let e : k + 0 ≡ k = omega arith in sub
 numbered_range f same k (suc n) rest m h =
     let low : (f k).sym.0 ≤ k = omega (arith, same k) in
     let next : k + 1 ≡ max k ((f k).sym.0 + 1) = omega (arith, same k) in
-    let sum : k + suc n ≡ (k + 1) + n = omega arith in
-    (low, subst (λ (j : ℕ). IsNumbered j (map f (range_with_len (k + 1) n) ++ rest) m) next
-        (numbered_range f same (k + 1) n rest m (subst (λ (j : ℕ). IsNumbered j rest m) sum h)))
+    let sum : k + suc n ≡ (k + 1) + n = omega arith in (
+      low,
+      subst (λ (j : ℕ). IsNumbered j (map f (range_with_len (k + 1) n) ++ rest) m) next
+          (numbered_range f same (k + 1) n rest m (subst (λ (j : ℕ). IsNumbered j rest m) sum h)),
+    )
 
 few_brackets_of : (ms : List Mark) → brackets_in (TBurst ms) ≤ 1
 few_brackets_of ms = elim (cases_Bool (nat_lt 1 (length ms))) [
-    inl t ↦ rw t (omega arith)
+  | inl t ↦ rw t (omega arith)
   | inr f ↦ rw f (omega arith)
-  ]
+]
 
 pub form_command_kept : (names : List (List ℕ)) (n m : ℕ) → 0 < n → 0 < m → n + m ≤ 1024 → length names ≡ n + m → IsDistinct bytes_eq names
     → AllByRecursion (λ x. IsTrue (is_name x)) names → IsCommand names (again (all_then_all n m) ∷ [])
@@ -57,25 +59,25 @@ form_command_kept names n m some_in some_out few many distinct formed =
     let ins : length (map taken (range_with_len 0 n)) ≡ n = length-map-range_with_len taken 0 n in
     let outs : length (map given (range_with_len n m)) ≡ m = length-map-range_with_len given n m in
     record {
-  some = omega arith;
-  shaped = ((refl, tt, (omega arith, (omega arith, tt))), tt);
-  bodied = (refl, tt);
-  numbered =
-    let first = map taken (range_with_len 0 n) in
-    let last = map given (range_with_len n m) ++ [] in
-    let start : n ≡ 0 + n = omega arith in
-    let end : n + m ≡ length names = sym many in
-    let text : (first ++ last) ++ [] ≡ first ++ last = append-nil (first ++ last) in
-    subst (λ (l : List Mark). IsNumbered 0 l (length names)) (sym text)
-      (numbered_range taken (λ p. refl) 0 n last (length names)
-        (subst (λ (k : ℕ). IsNumbered k last (length names)) start (numbered_range given (λ p. refl) n m [] (length names) end)));
-  distinct = distinct;
-  formed = formed;
-  few_brackets = (omega (arith, few_brackets_of (map taken (range_with_len 0 n)), few_brackets_of (map given (range_with_len n m))), tt);
-  few_symbols = omega arith;
-  few_procs = omega arith;
-  few_places = omega (arith, ins, outs);
-}
+      some = omega arith;
+      shaped = ((refl, tt, (omega arith, (omega arith, tt))), tt);
+      bodied = (refl, tt);
+      numbered =
+          let first = map taken (range_with_len 0 n) in
+          let last = map given (range_with_len n m) ++ [] in
+          let start : n ≡ 0 + n = omega arith in
+          let end : n + m ≡ length names = sym many in
+          let text : (first ++ last) ++ [] ≡ first ++ last = append-nil (first ++ last) in
+          subst (λ (l : List Mark). IsNumbered 0 l (length names)) (sym text)
+          (numbered_range taken (λ p. refl) 0 n last (length names)
+          (subst (λ (k : ℕ). IsNumbered k last (length names)) start (numbered_range given (λ p. refl) n m [] (length names) end)));
+      distinct = distinct;
+      formed = formed;
+      few_brackets = (omega (arith, few_brackets_of (map taken (range_with_len 0 n)), few_brackets_of (map given (range_with_len n m))), tt);
+      few_symbols = omega arith;
+      few_procs = omega arith;
+      few_places = omega (arith, ins, outs);
+    }
 
 -- the parts that were read, with different names and few of them: a text of the form
 pub form_text_read : (bs : List ℕ) (ins outs : List (List ℕ)) → form_at 1024 bs ≡ Some (ins, outs) → length ins + length outs ≤ 1024 → IsDistinct bytes_eq (ins ++ outs)

@@ -26,7 +26,6 @@ form_net_both c (suc (suc n)) zero h k = absurd (omega arith)
 form_net_both c (suc (suc n)) (suc zero) h k = absurd (omega arith)
 form_net_both c (suc (suc n)) (suc (suc m)) h k = refl
 
-
 module _ (f : Form) (h : IsFormed f) where
   -- both sides have a symbol
   pub some_inputs : 0 < f.inputs

@@ -26,11 +26,11 @@ unfolding after
 after_front [] bs r e = cc
 after_front (x ∷ xs) [] r e = absurd (cc)
 after_front (x ∷ xs) (b ∷ bs) r e = elim (eqb_tells x b) [
-    inl (t, same) ↦
+  | inl (t, same) ↦
       let rest : after xs bs ≡ Some r = rw t at e in
       ap (λ (y : ℕ). y ∷ bs) (sym same) ∙ ap (λ (l : List ℕ). x ∷ l) (after_front xs bs r rest)
   | inr (f, other) ↦ let none : ◌≡◌ {A = Option (List ℕ)} None (Some r) = rw f at e in absurd (cc)
-  ]
+]
 
 both : (a b : Bool) → (a && b) ≡ true → (a ≡ true) × (b ≡ true)
 both true b e = (refl, e)
@@ -84,9 +84,10 @@ with_front t n r (Some q) e = by (cases_Bool (is_name t))
 pub symbol_front : (mark bs n r : List ℕ) → symbol_at mark bs ≡ Some (n, r) → (bs ≡ n ++ (mark ++ r)) × (is_name n ≡ true)
 unfolding symbol_at
 symbol_front mark bs n r e =
-    let parts = with_front (take (run_of bs) bs) n r (after mark (drop (run_of bs) bs)) e in
-    (sym (take-append-drop (run_of bs) bs) ∙ ap (λ (l : List ℕ). l ++ drop (run_of bs) bs) parts.1 ∙ ap (λ (l : List ℕ). n ++ l) (after_front mark (drop (run_of bs) bs) r parts.0),
-      parts.2)
+    let parts = with_front (take (run_of bs) bs) n r (after mark (drop (run_of bs) bs)) e in (
+      sym (take-append-drop (run_of bs) bs) ∙ ap (λ (l : List ℕ). l ++ drop (run_of bs) bs) parts.1 ∙ ap (λ (l : List ℕ). n ++ l) (after_front mark (drop (run_of bs) bs) r parts.0),
+      parts.2,
+    )
 
 abbrev pub AllNames : List (List ℕ) → Type 0
 AllNames ns = AllByRecursion (λ n. IsTrue (is_name n)) ns
@@ -129,13 +130,12 @@ more_read : (k : ℕ) (mark bs n rest q r : List ℕ) (ns : List (List ℕ)) →
 more_read k mark bs n rest q r [] h bars read = absurd (let some = read.some in omega arith)
 more_read k mark bs n rest q r (x ∷ ns) h bars read = record {
   text =
-    h.0 ∙ ap (λ (l : List ℕ). n ++ (mark ++ l)) bars ∙ ap (λ (l : List ℕ). n ++ (mark ++ (codes "||" ++ l))) read.text
-    ∙ sym (let e : (n ++ mark ++ codes "||" ++ joined_text mark (x ∷ ns)) ++ r ≡ n ++ (mark ++ (codes "||" ++ (joined_text mark (x ∷ ns) ++ r))) = simp append_assoc in e);
+      h.0 ∙ ap (λ (l : List ℕ). n ++ (mark ++ l)) bars ∙ ap (λ (l : List ℕ). n ++ (mark ++ (codes "||" ++ l))) read.text
+      ∙ sym (let e : (n ++ mark ++ codes "||" ++ joined_text mark (x ∷ ns)) ++ r ≡ n ++ (mark ++ (codes "||" ++ (joined_text mark (x ∷ ns) ++ r))) = simp append_assoc in e);
   names = (h.1, read.names);
   some = omega arith;
   few = omega (arith, read.few);
 }
-
 
 after_both : (k : ℕ) (mark bs n rest q : List ℕ) (ns : List (List ℕ)) (r : List ℕ) → ((bs : List ℕ) (ns : List (List ℕ)) (r : List ℕ) → symbols_at k mark bs ≡ Some (ns, r) → Read k mark bs ns r)
     → (bs ≡ n ++ (mark ++ rest)) × (is_name n ≡ true) → rest ≡ codes "||" ++ q
@@ -144,7 +144,7 @@ after_both k mark bs n rest q ns r ih h bars None was e = absurd (cc)
 after_both k mark bs n rest q ns r ih h bars (Some p) was e =
     let same = same_part (n ∷ p.0) ns p.1 r e in
     subst (λ (l : List (List ℕ)). Read (suc k) mark bs l r) same.0
-      (subst (λ (l : List ℕ). Read (suc k) mark bs (n ∷ p.0) l) same.1 (more_read k mark bs n rest q p.1 p.0 h bars (ih q p.0 p.1 was)))
+    (subst (λ (l : List ℕ). Read (suc k) mark bs (n ∷ p.0) l) same.1 (more_read k mark bs n rest q p.1 p.0 h bars (ih q p.0 p.1 was)))
 
 after_one : (k : ℕ) (mark bs n rest : List ℕ) (ns : List (List ℕ)) (r : List ℕ) → ((bs : List ℕ) (ns : List (List ℕ)) (r : List ℕ) → symbols_at k mark bs ≡ Some (ns, r) → Read k mark bs ns r)
     → (bs ≡ n ++ (mark ++ rest)) × (is_name n ≡ true)
@@ -152,7 +152,7 @@ after_one : (k : ℕ) (mark bs n rest : List ℕ) (ns : List (List ℕ)) (r : Li
 after_one k mark bs n rest ns r ih h None was e =
     let same = same_part (n ∷ []) ns rest r e in
     subst (λ (l : List (List ℕ)). Read (suc k) mark bs l r) same.0
-      (subst (λ (l : List ℕ). Read (suc k) mark bs (n ∷ []) l) same.1 (one_read k mark bs n rest h))
+    (subst (λ (l : List ℕ). Read (suc k) mark bs (n ∷ []) l) same.1 (one_read k mark bs n rest h))
 after_one k mark bs n rest ns r ih h (Some q) was e =
     after_both k mark bs n rest q ns r ih h (after_front (codes "||") rest q was) (symbols_at k mark q) refl e
 
@@ -228,8 +228,8 @@ wide_read k mark bs inside q r [] bracket read close wide = absurd (omega arith)
 wide_read k mark bs inside q r (n ∷ []) bracket read close wide = absurd (omega arith)
 wide_read k mark bs inside q r (n ∷ x ∷ ns) bracket read close wide = record {
   text =
-    bracket ∙ ap (λ (l : List ℕ). codes "(" ++ l) (read.text ∙ ap (λ (l : List ℕ). joined_text mark (n ∷ x ∷ ns) ++ l) close)
-    ∙ sym (let e : (codes "(" ++ joined_text mark (n ∷ x ∷ ns) ++ codes ")") ++ r ≡ codes "(" ++ (joined_text mark (n ∷ x ∷ ns) ++ (codes ")" ++ r)) = simp append_assoc in e);
+      bracket ∙ ap (λ (l : List ℕ). codes "(" ++ l) (read.text ∙ ap (λ (l : List ℕ). joined_text mark (n ∷ x ∷ ns) ++ l) close)
+      ∙ sym (let e : (codes "(" ++ joined_text mark (n ∷ x ∷ ns) ++ codes ")") ++ r ≡ codes "(" ++ (joined_text mark (n ∷ x ∷ ns) ++ (codes ")" ++ r)) = simp append_assoc in e);
   names = read.names;
   some = read.some;
   few = read.few;
@@ -241,7 +241,7 @@ closed_read k mark bs inside q ns got r bracket read wide None was e = absurd (c
 closed_read k mark bs inside q ns got r bracket read wide (Some t) was e =
     let same = same_part got ns t r e in
     subst (λ (l : List (List ℕ)). BurstRead k mark bs l r) same.0
-      (subst (λ (l : List ℕ). BurstRead k mark bs got l) same.1 (wide_read k mark bs inside q t got bracket read (after_front (codes ")") q t was) wide))
+    (subst (λ (l : List ℕ). BurstRead k mark bs got l) same.1 (wide_read k mark bs inside q t got bracket read (after_front (codes ")") q t was) wide))
 
 bracket_read : (k : ℕ) (mark bs inside : List ℕ) (ns : List (List ℕ)) (r : List ℕ) → bs ≡ codes "(" ++ inside
     → (o : Option Part) → symbols_at k mark inside ≡ o → in_brackets o ≡ Some (ns, r) → BurstRead k mark bs ns r
@@ -300,11 +300,14 @@ parts_back : (k : ℕ) (ins outs : List (List ℕ)) (end : List ℕ) → AllName
 unfolding form_at
 parts_back k ins outs end in_names out_names some_in some_out few_in few_out ends =
     let second = burst_text (codes "!") outs ++ (codes "]." ++ end) in
-    rw (after_back (codes "main := pref*[") (burst_text (codes "?") ins ++ (codes ";" ++ second)),
+    rw (
+      after_back (codes "main := pref*[") (burst_text (codes "?") ins ++ (codes ";" ++ second)),
       burst_back k ins 63 (codes ";" ++ second) in_names refl some_in few_in,
       after_back (codes ";") second,
       burst_back k outs 33 (codes "]." ++ end) out_names refl some_out few_out,
-      after_back (codes "].") end, ends) refl
+      after_back (codes "].") end,
+      ends,
+    ) refl
 
 whole_text : (ins outs : List (List ℕ)) → form_text ins outs ≡ parts_text ins outs []
 whole_text ins outs = simp (append_assoc, append-nil)
@@ -314,11 +317,11 @@ ended_text ins outs = simp append_assoc
 
 pub form_back : (k : ℕ) (bs : List ℕ) (ins outs : List (List ℕ)) → IsFormText bs ins outs → 1024 ≤ k → form_at k bs ≡ Some (ins, outs)
 form_back k bs ins outs h le = elim h.text [
-    inl e ↦ ap (form_at k) (e ∙ whole_text ins outs)
+  | inl e ↦ ap (form_at k) (e ∙ whole_text ins outs)
       ∙ parts_back k ins outs [] (names_front ins outs h.formed) (names_back ins outs h.formed) h.some_in h.some_out (omega (arith, h.few)) (omega (arith, h.few)) refl
   | inr e ↦ ap (form_at k) (e ∙ ended_text ins outs)
       ∙ parts_back k ins outs (10 ∷ []) (names_front ins outs h.formed) (names_back ins outs h.formed) h.some_in h.some_out (omega (arith, h.few)) (omega (arith, h.few)) refl
-  ]
+]
 
 -- the bytes are such a text, but for the number of names and their being different
 pub record FormRead (k : ℕ) (bs : List ℕ) (ins outs : List (List ℕ)) : Type 0 where
@@ -350,9 +353,9 @@ to_end_some ins outs r a b e = by (cases_Bool (is_end r))
 
 ended : (bs r : List ℕ) (ins outs : List (List ℕ)) → bs ≡ parts_text ins outs r → is_end r ≡ true → (bs ≡ form_text ins outs) ⊎ (bs ≡ form_text ins outs ++ 10 ∷ [])
 ended bs r ins outs e h = elim (end_cases r h) [
-    inl none ↦ inl (e ∙ ap (parts_text ins outs) none ∙ sym (whole_text ins outs))
+  | inl none ↦ inl (e ∙ ap (parts_text ins outs) none ∙ sym (whole_text ins outs))
   | inr one ↦ inr (e ∙ ap (parts_text ins outs) one ∙ sym (ended_text ins outs))
-  ]
+]
 
 all_read : (k : ℕ) (bs inner second end : List ℕ) (p q : Part) (ins outs : List (List ℕ)) → 0 < k → after (codes "main := pref*[") bs ≡ Some inner
     → burst_at k (codes "?") inner ≡ Some (p.0, p.1) → after (codes ";") p.1 ≡ Some second → burst_at k (codes "!") second ≡ Some (q.0, q.1)
@@ -362,11 +365,11 @@ all_read k bs inner second end p q ins outs pos e1 e2 e3 e4 e5 e6 =
     let first = burst_front k (codes "?") inner p.0 p.1 pos e2 in
     let other = burst_front k (codes "!") second q.0 q.1 pos e4 in
     let text : bs ≡ parts_text p.0 q.0 end =
-        after_front (codes "main := pref*[") bs inner e1
-        ∙ ap (λ (l : List ℕ). codes "main := pref*[" ++ l) (first.text
-          ∙ ap (λ (l : List ℕ). burst_text (codes "?") p.0 ++ l) (after_front (codes ";") p.1 second e3
-            ∙ ap (λ (l : List ℕ). codes ";" ++ l) (other.text
-              ∙ ap (λ (l : List ℕ). burst_text (codes "!") q.0 ++ l) (after_front (codes "].") q.1 end e5)))) in
+    after_front (codes "main := pref*[") bs inner e1
+    ∙ ap (λ (l : List ℕ). codes "main := pref*[" ++ l) (first.text
+    ∙ ap (λ (l : List ℕ). burst_text (codes "?") p.0 ++ l) (after_front (codes ";") p.1 second e3
+    ∙ ap (λ (l : List ℕ). codes ";" ++ l) (other.text
+    ∙ ap (λ (l : List ℕ). burst_text (codes "!") q.0 ++ l) (after_front (codes "].") q.1 end e5)))) in
     let read : FormRead k bs p.0 q.0 = record {
       some_in = first.some;
       some_out = other.some;

@@ -114,7 +114,12 @@ fn add_new(names: &mut NameSet, name: Name) -> Result<(), FormRefusal>
 }
 
 /// The command that takes all inputs and then gives all outputs, again and again.
-fn form_command(alloc: Global, names: NameSet, inputs: u32, outputs: u32) -> Result<Command, AllocError>
+fn form_command(
+    alloc: Global,
+    names: NameSet,
+    inputs: u32,
+    outputs: u32,
+) -> Result<Command, AllocError>
     requires some_in { 0 < inputs }
     requires some_out { 0 < outputs }
     requires few { inputs + outputs ≤ 1024 }
@@ -126,7 +131,10 @@ fn form_command(alloc: Global, names: NameSet, inputs: u32, outputs: u32) -> Res
 {
     let first = marks(alloc, 0, inputs, Dir::Input)?;
     let last = marks(alloc, inputs, outputs, Dir::Output)?;
-    let bursts = vec![in alloc; Item::Burst(Items::from_vec(first)), Item::Burst(Items::from_vec(last))]?;
+    let bursts = vec![in alloc;
+        Item::Burst(Items::from_vec(first)),
+        Item::Burst(Items::from_vec(last)),
+    ]?;
     let body = Seq {
         items: Items::from_vec(bursts),
     };

@@ -6,8 +6,8 @@ mod laws;
 mod load;
 mod netlist;
 mod network;
-mod parse;
 mod outcome;
+mod parse;
 mod plan;
 mod say;
 #[cfg(test)]

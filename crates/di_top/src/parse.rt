@@ -61,7 +61,9 @@ fn is_name_text(bytes: &[u8]) -> bool
 {
     bytes.len() <= 32
         && begins_with_letter(bytes)
-        && !(bytes == b"let".as_slice() || bytes == b"main".as_slice() || bytes == b"pref".as_slice())
+        && !(bytes == b"let".as_slice()
+            || bytes == b"main".as_slice()
+            || bytes == b"pref".as_slice())
 }
 
 fn begins_with_letter(bytes: &[u8]) -> bool
@@ -86,7 +88,11 @@ fn symbol<'a>(bytes: &'a [u8], mark: &[u8]) -> Option<(&'a [u8], &'a [u8])>
 {
     let (name, others) = bytes.split_at(run_len(bytes));
     let rest = skip(others, mark)?;
-    if is_name_text(name) { Some((name, rest)) } else { None }
+    if is_name_text(name) {
+        Some((name, rest))
+    } else {
+        None
+    }
 }
 
 /// At most `most` symbols joined by two bars, and what follows.

@@ -18,7 +18,7 @@ pub returns-then-inputs-outputs-gt-MOST_SYMBOLS-clause-refused : goal.returns-th
 returns-then-inputs-outputs-gt-MOST_SYMBOLS-clause-refused c = λ e ins outs h.
     let same = same_parts c.args.bytes.now ins outs c.in-Ok.parts.0.items c.in-Ok.parts.1.items c.in-Ok.ensures.ok h in
     let few : length c.in-Ok.parts.0.items + length c.in-Ok.parts.1.items ≤ 1024 =
-        omega (arith, h.few, ap (λ (l : List (List ℕ)). length l) same.0, ap (λ (l : List (List ℕ)). length l) same.1) in
+    omega (arith, h.few, ap (λ (l : List (List ℕ)). length l) same.0, ap (λ (l : List (List ℕ)). length l) same.1) in
     search (rules, few)
 
 pub returns-in-Err-different_names-clause-refused : goal.returns-in-Err-different_names-clause-refused
@@ -26,7 +26,7 @@ returns-in-Err-different_names-clause-refused c = λ e ins outs h.
     let equal : c.in-Err-different_names.refusal ≡ NotThisForm = cc in
     let same = same_parts c.args.bytes.now ins outs c.in-Ok.parts.0.items c.in-Ok.parts.1.items c.in-Ok.ensures.ok h in
     let all : c.in_ok-joined.field-0.items ≡ ins ++ outs =
-        c.in_ok-joined.ensures ∙ ap (λ (l : List (List ℕ)). l ++ c.in-Ok.parts.1.items) same.0 ∙ ap (λ (l : List (List ℕ)). ins ++ l) same.1 in
+    c.in_ok-joined.ensures ∙ ap (λ (l : List (List ℕ)). l ++ c.in-Ok.parts.1.items) same.0 ∙ ap (λ (l : List (List ℕ)). ins ++ l) same.1 in
     c.in-Err-different_names.ensures.refused (ap (λ (r : FormRefusal). Err r) equal) (subst (λ (l : List (List ℕ)). IsDistinct bytes_eq l) (sym all) h.distinct)
 
 pub form_command-requires-clause-some_in : goal.form_command-requires-clause-some_in
