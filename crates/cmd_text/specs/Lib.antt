@@ -1,1 +1,15 @@
+pub mod Token
+pub mod Process
+pub mod File
+pub mod Names
+pub mod Text
+pub mod Fault
+pub mod Scan
+pub mod Source
+pub mod ScanView
+pub mod Machine
+pub mod ProcessView
+pub mod Reader
+pub mod Reading
+pub mod ReaderView
 pub mod Canonical

@@ -1,6 +1,17 @@
 //! Command files: their text, the reader and the writer.
 #![tactic(auto)]
 
+mod file;
+mod laws;
+mod place;
+mod read;
+mod scan;
+mod spot;
+mod state;
+mod token;
 mod writer;
 
+pub use file::{Factor, File, Named, Refusal, Rename, Sentence};
+pub use laws::{first_faults_are_told, texts_are_read};
+pub use read::read_file;
 pub use writer::{put_command, write_command};

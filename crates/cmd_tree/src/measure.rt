@@ -10,8 +10,16 @@ use crate::tree::{Item, Proc, Seq};
 pub fn places(command: &Command) -> u32
     ensures { result ≡ places_of_all command.now.procs }
 {
+    places_in_all(command.procs.as_slice())
+}
+
+/// How many symbol places the processes have.
+pub fn places_in_all(procs: &[Proc]) -> u32
+    requires { places_of_all procs.now < 2 ^ 32 }
+    ensures { result ≡ places_of_all procs.now }
+{
     let mut count: u32 = 0;
-    for process in command.procs.as_slice() {
+    for process in procs {
         count += proc_places(process);
     }
     count

@@ -17,7 +17,7 @@ use Rattle.di_top.specs.Ends.{Spoke, Spoken, Broken, Ends, Finished, Stopped, Cu
 use Rattle.di_top.specs.Promised.{Promise, Printed, CutText, CutLine, FaultTable, CanRise}
 use Rattle.di_top.specs.Headline.{Faultless, Headline, Appended}
 use Rattle.di_top.proofs.FormLengths.{form_short}
-use Rattle.di_top.proofs.Puts.{front_whole}
+use Rattle.di_io.proofs.Puts.{front_whole}
 
 stop_not_done : (o : Outcome) → IsStop o → o ≢ Done
 stop_not_done o s e = let P : Outcome → Type 0 = IsStop in subst P e s

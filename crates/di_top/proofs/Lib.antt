@@ -6,9 +6,9 @@ pub mod FormNet
 pub mod Parsing
 pub mod FormProofs
 pub mod FormShapes
-pub mod Puts
 pub mod Lines
 pub mod FormLengths
 pub mod Compiling
 pub mod Reasons
 pub mod Endings
+pub mod Sourcing

@@ -14,3 +14,4 @@ pub mod Outcomes
 pub mod Promised
 pub mod Ends
 pub mod Headline
+pub mod Sources

@@ -10,6 +10,7 @@ mod outcome;
 mod parse;
 mod plan;
 mod say;
+mod source;
 #[cfg(test)]
 mod tests;
 mod top;

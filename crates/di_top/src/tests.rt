@@ -119,7 +119,8 @@ fn answers_a_failed_put(rt: HostRuntime) -> Result<(), Fail> {
 }
 
 // Symbols with the mark, joined by two bars.
-fn push_burst(text: &mut String, first: u32, mark: char) -> Result<(), Fail> {
+fn push_burst(text: &mut String, first: u16, mark: char) -> Result<(), Fail> {
+    let first = u32::from(first);
     text.push('(')?;
     for symbol in first..first + 512 {
         if symbol > first {

@@ -17,3 +17,11 @@ pub mod Meets
 pub mod Renumbered
 pub mod Moved
 pub mod Reordered
+pub mod InPlace
+pub mod Sizes
+pub mod WalkExample
+pub mod Places
+pub mod WithNew
+pub mod Walked
+pub mod WalkOrder
+pub mod FirstWires

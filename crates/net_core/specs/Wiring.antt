@@ -1,5 +1,5 @@
 -- Networks as lists of nodes, each with one wire at each port. Node 0 is the environment.
-use Rattle.std.specs.Prelude.{◌≡◌, ℕ, suc, ◌<◌, Bool, true, false, not, if◌then◌else◌, nat_eq, List, [], ◌∷◌, ◌++◌, map, length}
+use Rattle.std.specs.Prelude.{◌≡◌, ℕ, suc, ◌<◌, Bool, true, false, not, if◌then◌else◌, nat_eq, List, [], ◌∷◌, ◌++◌, map, length, take, drop}
 use Rattle.std.specs.List.{AllByRecursion}
 use Rattle.net_core.specs.declared.spec.NodeSpec.{NodeSpec}
 use Rattle.net_core.specs.Specs.{outs_of, IsFormed}
@@ -16,6 +16,10 @@ pub record Circuit : Type 0 where
 -- a node with other numbers for its wires
 abbrev pub moved : (ℕ → ℕ) → Node → Node
 moved f x = record { spec = x.spec; ends = map f x.ends }
+
+-- the network with these nodes in the place of its node a, and with so many wires
+abbrev pub replaced : Circuit → ℕ → List Node → ℕ → Circuit
+replaced c a xs n = record { nodes = take a c.nodes ++ (xs ++ drop (suc a) c.nodes); wires = n }
 
 -- how often a wire stands in a list
 unfoldable pub count : ℕ → List ℕ → ℕ

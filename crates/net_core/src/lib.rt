@@ -5,6 +5,6 @@ mod laws;
 mod net;
 mod spec;
 
-pub use laws::closed_law;
+pub use laws::{closed_law, ports_law, walk_law};
 pub use net::{Net, NetBuilder, Node, OpenPort, closed};
-pub use spec::{NodeSpec, directions};
+pub use spec::{NodeSpec, copy_spec, directions, same_spec};

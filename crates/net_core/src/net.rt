@@ -1,8 +1,8 @@
-ghost use Rattle.std.specs.Prelude.{◌≡◌, ◌≢◌, ℕ, ◌+◌, ◌<◌, ◌≤◌, ◌^◌, true, false, not, [], ◌∷◌, ◌++◌, length, IfOk, OnErr, MatchOption};
+ghost use Rattle.std.specs.Prelude.{◌≡◌, ◌≢◌, ℕ, ◌+◌, ◌<◌, ◌≤◌, ◌^◌, true, false, not, [], ◌∷◌, ◌++◌, length, IfOk, IfErr, OnOk, OnErr, MatchOption, suc, take, drop};
 ghost use Rattle.std.specs.List.{AllByRecursion};
-ghost use Rattle.net_core.specs.Wiring.{Node, Circuit, Draft, Fits, IsOnce, IsClosed, picked, finished};
+ghost use Rattle.net_core.specs.Wiring.{Node, Circuit, Draft, Fits, IsOnce, IsClosed, picked, finished, replaced};
 ghost use Rattle.net_core.specs.Specs.{IsFormed};
-ghost use Rattle.net_core.specs.Tallies.{Added, Roomy};
+ghost use Rattle.net_core.specs.Tallies.{Added, Roomy, Kept};
 
 use crate::spec::{NodeSpec, directions};
 use std::alloc::{AllocError, Global};
@@ -176,6 +176,77 @@ impl NetBuilder {
             wires: count,
             ends,
         })
+    }
+}
+
+/// Puts the other list in the place of one item. After an error the list is as before.
+fn put_in_place(nodes: &mut Vec<Node>, at: usize, parts: &mut Vec<Node>) -> Result<(), AllocError>
+    requires { at < length nodes.old.items }
+    ensures ok { OnOk result (nodes.new.items ≡ take at nodes.old.items ++ (parts.old.items ++ drop (suc at) nodes.old.items)) }
+    ensures refused { OnErr result (nodes.new.items ≡ nodes.old.items) }
+{
+    let many = parts.len();
+    nodes.append(parts)?;
+    nodes.remove(at);
+    nodes[at..].rotate_right(many);
+    Ok(())
+}
+
+impl Net {
+    /// The network with these nodes in the place of a component, and with so many wires, where each wire
+    /// then has its two ends. After an error the network is as before.
+    pub fn replace(
+        self,
+        alloc: Global,
+        at: u32,
+        parts: Vec<Node>,
+        wires: u32,
+    ) -> Result<Net, (Net, AllocError)>
+        requires component { 0 < at }
+        requires inside { at < length self.nodes }
+        requires few { length (replaced self at parts.items wires).nodes < 2 ^ 32 }
+        requires fit { AllByRecursion (Fits wires) (replaced self at parts.items wires).nodes }
+        requires closed { IsClosed (replaced self at parts.items wires) }
+        ensures ok { IfOk result (λ net. net ≡ replaced self at parts.items wires) }
+        ensures refused { IfErr result (λ error. error.0 ≡ self) }
+    {
+        let one = Ends {
+            drivers: 1,
+            receivers: 1,
+        };
+        match vec![in alloc; one; wires as usize] {
+            Err(error) => Err((self, error)),
+            Ok(ends) => self.replace_with(at, parts, wires, ends),
+        }
+    }
+
+    fn replace_with(
+        self,
+        at: u32,
+        mut parts: Vec<Node>,
+        wires: u32,
+        ends: Vec<Ends>,
+    ) -> Result<Net, (Net, AllocError)>
+        requires component { 0 < at }
+        requires inside { at < length self.nodes }
+        requires kept { Kept (replaced self at parts.items wires).nodes wires ends.items }
+        ensures ok { IfOk result (λ net. net ≡ replaced self at parts.items wires) }
+        ensures refused { IfErr result (λ error. error.0 ≡ self) }
+    {
+        let Net {
+            mut nodes,
+            wires: old_wires,
+            ends: old_ends,
+        } = self;
+        if let Err(error) = put_in_place(&mut nodes, at as usize, &mut parts) {
+            let net = Net {
+                nodes,
+                wires: old_wires,
+                ends: old_ends,
+            };
+            return Err((net, error));
+        }
+        Ok(Net { nodes, wires, ends })
     }
 }
 

@@ -1,11 +1,11 @@
-ghost use Rattle.std.specs.Prelude.{◌≡◌, ℕ, ◌<◌, ◌++◌, map, length, replicate, true, false, IfOk};
+ghost use Rattle.std.specs.Prelude.{◌≡◌, ℕ, ◌<◌, ◌++◌, map, length, replicate, true, false, IfOk, IsTrue, ◌↔◌};
 ghost use Rattle.std.specs.List.{range_with_len};
 ghost use Rattle.cmd_tree.specs.Limits.{marks_of_all};
 ghost use Rattle.basic_kinds.specs.Kinds.{inputs_of, outputs_of};
 ghost use Rattle.net_core.specs.Specs.{outs_of, IsFormed, gives_symbol, sides};
 
-use basic_kinds::{Kind, ports};
-use cmd_tree::{Command, Dir, all_marks};
+use basic_kinds::{Kind, copy_kind, ports, same_kind};
+use cmd_tree::{Command, Dir, all_marks, copy_command, same_command};
 use std::alloc::{AllocError, Global};
 
 /// What a node does: a basic kind, whose ports are its inputs and then its outputs, or a command, whose
@@ -27,6 +27,33 @@ pub fn directions(alloc: Global, spec: &NodeSpec) -> Result<Vec<bool>, AllocErro
             kind_directions(alloc, inputs, outputs)
         }
         NodeSpec::Cmd(command) => command_directions(alloc, command),
+    }
+}
+
+/// An equal specification with memory of its own.
+pub fn copy_spec(alloc: Global, spec: &NodeSpec) -> Result<NodeSpec, AllocError>
+    ensures { IfOk result (λ copy. copy ≡ spec.now) }
+{
+    match spec {
+        NodeSpec::Kind(kind) => {
+            let copy = copy_kind(alloc, kind)?;
+            Ok(NodeSpec::Kind(copy))
+        }
+        NodeSpec::Cmd(command) => {
+            let copy = copy_command(alloc, command)?;
+            Ok(NodeSpec::Cmd(copy))
+        }
+    }
+}
+
+/// Whether both specifications are equal: the same kind, or equal commands. It takes no memory.
+pub fn same_spec(a: &NodeSpec, b: &NodeSpec) -> bool
+    ensures { IsTrue result ↔ (a.now ≡ b.now) }
+{
+    match (a, b) {
+        (NodeSpec::Kind(first), NodeSpec::Kind(second)) => same_kind(first, second),
+        (NodeSpec::Cmd(first), NodeSpec::Cmd(second)) => same_command(first, second),
+        _ => false,
     }
 }
 

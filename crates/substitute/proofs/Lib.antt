@@ -7,3 +7,6 @@ pub mod Places
 pub mod Ranks
 pub mod Spliced
 pub mod SplicedNet
+pub mod Numbering
+pub mod Ports
+pub mod Tables

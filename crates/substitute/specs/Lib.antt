@@ -1,1 +1,3 @@
 pub mod Splice
+pub mod Refusals
+pub mod Renumbering

@@ -1,12 +1,19 @@
 //! A network in the place of one node of another.
 #![tactic(auto)]
 
+mod renumber;
+#[cfg(test)]
+mod tests;
+mod whole;
+
 ghost use Rattle.std.specs.Prelude.{ℕ};
 ghost use Rattle.std.specs.List.{AllByRecursion};
 ghost use Rattle.net_core.specs.declared.spec.NodeSpec.{NodeSpec};
 ghost use Rattle.net_core.specs.Wiring.{Circuit, Fits, IsClosed};
 ghost use Rattle.net_core.specs.Networks.{IsClean, SoundFor, Correct};
 ghost use Rattle.substitute.specs.Splice.{spliced, Fitting};
+
+pub use whole::{SpliceRefusal, splice};
 
 /// What a network keeps where another one takes the place of one of its nodes: each node has its wires, each
 /// wire its two ends, and it is sound and correct for what it was.

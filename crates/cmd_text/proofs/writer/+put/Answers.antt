@@ -1,10 +1,10 @@
 use Rattle.std.proofs.Common.{arith}
 use Rattle.std.specs.Prelude.{codes}
-use Rattle.cmd_text.proofs.Puts.{going_next, going_cut, front_more, front_then, gains_then, ok_then, err_then, on_err, ok_text, err_text}
+use Rattle.di_io.proofs.Puts.{going_next, going_cut, front_more, front_then, gains_then, ok_then, err_then, on_err, ok_text, err_text}
 use Rattle.cmd_text.proofs.Joined.{items_next, seqs_next}
 use Rattle.cmd_text.proofs.writer.+put.Goals as goal
 use Rattle.std.proofs.Common.{ap, ◌∙◌, refl}
-use Rattle.cmd_text.proofs.Puts.{going_last}
+use Rattle.di_io.proofs.Puts.{going_last}
 use Rattle.cmd_text.proofs.Joined.{alt_is, seqs_none}
 use Rattle.cmd_tree.specs.Tree.{TSeq}
 use Rattle.cmd_tree.specs.View.{item_of, seq_of, seqs_of}

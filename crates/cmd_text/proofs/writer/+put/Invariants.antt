@@ -1,7 +1,7 @@
 use Rattle.std.proofs.Common.{◌≤◌, [], drop}
 use Rattle.cmd_tree.specs.View.{seq_of, seqs_of}
 use Rattle.cmd_text.specs.Canonical.{items_led, seqs_led}
-use Rattle.cmd_text.proofs.Puts.{Going}
+use Rattle.di_io.proofs.Puts.{Going}
 use Rattle.cmd_text.proofs.writer.+put.Given as goal
 
 abbrev pub invariant-put_seq-loop-item : goal.invariant-put_seq-loop-item

@@ -1,4 +1,4 @@
-use Rattle.cmd_text.proofs.Puts.{ok_text, err_text}
+use Rattle.di_io.proofs.Puts.{ok_text, err_text}
 use Rattle.cmd_text.proofs.Joined.{body_one, body_more}
 use Rattle.cmd_text.proofs.writer.put_body.Goals as goal
 use Rattle.std.proofs.Common.{ap, ◌∙◌}

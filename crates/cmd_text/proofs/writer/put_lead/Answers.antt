@@ -1,5 +1,5 @@
 use Rattle.std.specs.Prelude.{codes}
-use Rattle.cmd_text.proofs.Puts.{front_more, front_then, gains_then, ok_then, err_then, on_err}
+use Rattle.di_io.proofs.Puts.{front_more, front_then, gains_then, ok_then, err_then, on_err}
 use Rattle.cmd_text.proofs.writer.put_lead.Goals as goal
 use Rattle.cmd_text.specs.Canonical.{seq_text}
 

@@ -1,5 +1,5 @@
 use Rattle.std.proofs.Common.{arith}
-use Rattle.cmd_text.proofs.Puts.{going_next, going_cut, front_more, front_then, gains_then, on_err}
+use Rattle.di_io.proofs.Puts.{going_next, going_cut, front_more, front_then, gains_then, on_err}
 use Rattle.cmd_text.proofs.Joined.{marks_at}
 use Rattle.cmd_text.proofs.writer.put_marks.Goals as goal
 use Rattle.std.proofs.Common.{get_or}

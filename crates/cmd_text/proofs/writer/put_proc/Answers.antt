@@ -1,4 +1,4 @@
-use Rattle.cmd_text.proofs.Puts.{front_more, ok_then, err_then, on_err}
+use Rattle.di_io.proofs.Puts.{front_more, ok_then, err_then, on_err}
 use Rattle.cmd_text.proofs.writer.put_proc.Goals as goal
 use Rattle.cmd_text.specs.Canonical.{parts_text}
 

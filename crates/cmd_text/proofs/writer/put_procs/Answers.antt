@@ -1,5 +1,5 @@
 use Rattle.std.proofs.Common.{arith}
-use Rattle.cmd_text.proofs.Puts.{going_next, going_cut, front_more, front_then, gains_then, on_err}
+use Rattle.di_io.proofs.Puts.{going_next, going_cut, front_more, front_then, gains_then, on_err}
 use Rattle.cmd_text.proofs.Joined.{procs_next}
 use Rattle.cmd_text.proofs.writer.put_procs.Goals as goal
 use Rattle.cmd_text.specs.Canonical.{proc_text}

@@ -1,6 +1,6 @@
 use Rattle.std.proofs.Common.{◌≤◌, [], drop}
 use Rattle.cmd_text.specs.Canonical.{procs_led}
-use Rattle.cmd_text.proofs.Puts.{Going}
+use Rattle.di_io.proofs.Puts.{Going}
 use Rattle.cmd_text.proofs.writer.put_procs.Given as goal
 
 abbrev pub invariant-loop-process : goal.invariant-loop-process

@@ -1,7 +1,7 @@
 use Rattle.std.proofs.Common.{◌≤◌, [], drop}
 use Rattle.cmd_tree.specs.View.{seqs_of}
 use Rattle.cmd_text.specs.Canonical.{seqs_led}
-use Rattle.cmd_text.proofs.Puts.{Going}
+use Rattle.di_io.proofs.Puts.{Going}
 use Rattle.cmd_text.proofs.writer.put_seqs.Given as goal
 
 abbrev pub invariant-loop-seq : goal.invariant-loop-seq

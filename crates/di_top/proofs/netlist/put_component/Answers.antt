@@ -1,6 +1,6 @@
 use Rattle.std.specs.Prelude.{codes}
 use Rattle.di_top.specs.NetText.{numbers_text}
-use Rattle.di_top.proofs.Puts.{front_more, front_then, gains_then, ok_then, err_then, on_err}
+use Rattle.di_io.proofs.Puts.{front_more, front_then, gains_then, ok_then, err_then, on_err}
 use Rattle.di_top.proofs.netlist.put_component.Goals as goal
 
 pub returns-in_err-put_kind-clause-front : goal.returns-in_err-put_kind-clause-front

@@ -1,7 +1,7 @@
 use Rattle.std.specs.Prelude.{codes}
 use Rattle.cmd_text.specs.Canonical.{procs_text}
 use Rattle.di_top.specs.NetText.{ports_text, nodes_text}
-use Rattle.di_top.proofs.Puts.{front_more, front_then, gains_then, ok_then, err_then, on_err}
+use Rattle.di_io.proofs.Puts.{front_more, front_then, gains_then, ok_then, err_then, on_err}
 use Rattle.di_top.proofs.netlist.put_lines.Goals as goal
 
 pub returns-in_err-put-clause-front : goal.returns-in_err-put-clause-front

@@ -1,5 +1,5 @@
 use Rattle.std.proofs.Common.{arith}
-use Rattle.di_top.proofs.Puts.{going_next, going_cut, on_err}
+use Rattle.di_io.proofs.Puts.{going_next, going_cut, on_err}
 use Rattle.di_top.proofs.Lines.{nodes_next}
 use Rattle.di_top.proofs.netlist.put_nodes.Goals as goal
 

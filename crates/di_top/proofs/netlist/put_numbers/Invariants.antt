@@ -1,6 +1,6 @@
 use Rattle.std.proofs.Common.{◌≤◌, ◌+◌, drop}
 use Rattle.di_top.specs.NetText.{numbers_text}
-use Rattle.di_top.proofs.Puts.{Going}
+use Rattle.di_io.proofs.Puts.{Going}
 use Rattle.di_top.proofs.netlist.put_numbers.Given as goal
 
 abbrev pub invariant-loop-number : goal.invariant-loop-number

@@ -1,5 +1,5 @@
 use Rattle.std.specs.Prelude.{codes, decimal}
-use Rattle.di_top.proofs.Puts.{front_more, front_then, gains_then, ok_then, err_then, on_err}
+use Rattle.di_io.proofs.Puts.{front_more, front_then, gains_then, ok_then, err_then, on_err}
 use Rattle.di_top.proofs.say.say_read_fault.Goals as goal
 
 pub returns-in_err-put-clause-front : goal.returns-in_err-put-clause-front

@@ -1,0 +1,4 @@
+pub mod Least
+pub mod Bursts
+pub mod Ends
+pub mod Rules

@@ -1,0 +1,20 @@
+//! The grammar of delay-insensitive commands: which commands are admitted, and where a command
+//! breaks a rule. `specs/Rules.antt` has the rules.
+#![tactic(auto)]
+
+mod alternate;
+mod check;
+mod choices;
+mod ends;
+mod fault;
+mod grant;
+mod places;
+mod uneven;
+
+pub use alternate::{second_rule, third_rule};
+pub use check::Broken;
+pub use fault::Fault;
+pub use uneven::first_rule;
+
+#[cfg(test)]
+mod tests;

@@ -1,0 +1,218 @@
+-- The table of new numbers is that of the spliced network.
+use Rattle.std.proofs.Common.{◌≡◌, ◌⊎◌, inl, inr, ℕ, zero, suc, ◌+◌, ◌<◌, ◌≤◌, Bool, true, false, not, List, [], ◌∷◌, ◌++◌, length, map, take, drop, get_or, Option, None, Some, refl, sym, ap, ◌∙◌, subst, arith, nat_eq, eq-eqb, ne_eqb, if◌then◌else◌}
+use Rattle.std.specs.Prelude.{slice_get, Result, Ok, Err, IfOk, ◌^◌}
+use Rattle.std.specs.List.{AllByRecursion, range_with_len}
+use Rattle.std.proofs.lemmas.Bool.{cases_eq, cases_lt, cases_Bool, false≢true, and_parts}
+use Rattle.std.proofs.lemmas.Option.{same_Some}
+use Rattle.std.proofs.lemmas.List.FromFn.{get_or-map-range_with_len}
+use Rattle.net_core.specs.Specs.{outs_of}
+use Rattle.net_core.specs.Wiring.{Node, Circuit, Fits, count, moved, replaced}
+use Rattle.net_core.specs.Networks.{directions_at, directions, gives, takes, end_of, end_at, spec_of}
+use Rattle.net_core.proofs.Found.{all_nodes, same_ports, gives_there, takes_there}
+use Rattle.substitute.specs.Splice.{driver, receiver, output, input, is_inner, rank, renumber, spliced, Fitting}
+use Rattle.substitute.specs.Refusals.{ends_of}
+use Rattle.substitute.specs.Renumbering.{written, filled, after_filled}
+use Rattle.substitute.proofs.Fused.{kind, Entering, Leaving, Inner, taken_there, given_there}
+use Rattle.net_core.proofs.Sizes.{nodes_few}
+use Rattle.substitute.proofs.SplicedNet.{spliced_fits, spliced_closed}
+use Rattle.substitute.proofs.Ports.{port_ends, count_two, count_around}
+
+-- ---- what is written
+
+written_none : (is os : List ℕ) (u : ℕ) (x : Option ℕ) → length os ≡ length is → ((p : ℕ) → p < length is → get_or is p 0 ≡ u → ⊥) → written is os u x ≡ x
+written_none [] os u x e h = refl
+written_none (i ∷ is) [] u x e h = absurd (omega arith)
+written_none (i ∷ is) (o ∷ os) u x e h =
+    ap (λ t. written is os u (if t then Some o else x)) (ne_eqb i u (λ q. h 0 (omega arith) q)) ∙ written_none is os u x (omega arith) (λ p l q. h (suc p) (omega arith) q)
+
+written_at : (is os : List ℕ) (u : ℕ) (x : Option ℕ) (p : ℕ) → length os ≡ length is → p < length is → get_or is p 0 ≡ u
+    → ((q : ℕ) → q < length is → get_or is q 0 ≡ u → q ≡ p) → written is os u x ≡ Some (get_or os p 0)
+written_at [] os u x p e l at only = absurd (omega arith)
+written_at (i ∷ is) [] u x p e l at only = absurd (omega arith)
+written_at (i ∷ is) (o ∷ os) u x zero e l at only =
+    ap (λ t. written is os u (if t then Some o else x)) (eq-eqb i u at)
+    ∙ written_none is os u (Some o) (omega arith) (λ q k f. let same = only (suc q) (omega arith) f in omega arith)
+written_at (i ∷ is) (o ∷ os) u x (suc p) e l at only =
+    ap (λ t. written is os u (if t then Some o else x)) (ne_eqb i u (λ f. let same = only 0 (omega arith) f in omega arith))
+    ∙ written_at is os u x p (omega arith) (omega arith) at (λ q k f. let same = only (suc q) (omega arith) f in omega arith)
+
+-- ---- what is filled in
+
+-- Whether a number gets a new one, and which one.
+record Filled (k : ℕ) (f : ℕ → Bool) (F : ℕ → Option ℕ) (R : ℕ → ℕ) (u : ℕ) : Type 0 where
+  fresh : f u ≡ true → (F u ≡ None) × (R u ≡ k + rank f u)
+  kept : f u ≡ false → F u ≡ Some (R u)
+
+rank_more : (f : ℕ → Bool) (u : ℕ) → f u ≡ true → rank f (suc u) ≡ suc (rank f u)
+unfolding rank
+rank_more f u e = rw e refl
+
+rank_stays : (f : ℕ → Bool) (u : ℕ) → f u ≡ false → rank f (suc u) ≡ rank f u
+unfolding rank
+rank_stays f u e = rw e refl
+
+filled_is : (k : ℕ) (f : ℕ → Bool) (F : ℕ → Option ℕ) (R : ℕ → ℕ) (s n m : ℕ) → m ≡ k + rank f s → ((u : ℕ) → s ≤ u → u < s + n → Filled k f F R u)
+    → (filled (map F (range_with_len s n)) m ≡ map R (range_with_len s n)) × (after_filled (map F (range_with_len s n)) m ≡ k + rank f (s + n))
+filled_is k f F R s zero m e all = (refl, e ∙ ap (λ x. k + rank f x) (let z : s ≡ s + 0 = omega arith in z))
+filled_is k f F R s (suc n) m e all =
+    let here = all s (omega arith) (omega arith) in
+    let later = λ (u : ℕ) (h : s + 1 ≤ u) (l : u < s + 1 + n). all u (omega arith) (omega arith) in
+    let total : k + rank f (s + 1 + n) ≡ k + rank f (s + suc n) = ap (λ x. k + rank f x) (let z : s + 1 + n ≡ s + suc n = omega arith in z) in
+    elim (cases_Bool (f s)) [
+      | inl h ↦ (let (none, number) = here.fresh h in
+          let next : m + 1 ≡ k + rank f (s + 1) = (let more = rank_more f s h in let z : s + 1 ≡ suc s = omega arith in rw z (omega arith)) in
+          let (table, count) = filled_is k f F R (s + 1) n (m + 1) next later in
+          let number' : m ≡ R s = e ∙ sym number in (
+            ap (λ o. filled (o ∷ map F (range_with_len (s + 1) n)) m) none ∙ (λ i. number' i ∷ table i),
+            ap (λ o. after_filled (o ∷ map F (range_with_len (s + 1) n)) m) none ∙ count ∙ total,
+          ))
+      | inr h ↦ (let some = here.kept h in
+          let next : m ≡ k + rank f (s + 1) = (let more = rank_stays f s h in let z : s + 1 ≡ suc s = omega arith in rw z (omega arith)) in
+          let (table, count) = filled_is k f F R (s + 1) n m next later in (
+            ap (λ o. filled (o ∷ map F (range_with_len (s + 1) n)) m) some ∙ ap (λ t. R s ∷ t) table,
+            ap (λ o. after_filled (o ∷ map F (range_with_len (s + 1) n)) m) some ∙ count ∙ total,
+          ))
+    ]
+
+rank_none : (k : ℕ) (f : ℕ → Bool) → k ≡ k + rank f 0
+unfolding rank
+rank_none k f = omega arith
+
+moved_same : (f g : ℕ → ℕ) (n : ℕ) (xs : List Node) → ((w : ℕ) → w < n → f w ≡ g w) → AllByRecursion (Fits n) xs → map (moved f) xs ≡ map (moved g) xs
+moved_same f g n [] h all = refl
+moved_same f g n (x ∷ xs) h all =
+    let fits : Fits n x = all.0 in let ends = ends_same x.ends fits.known in let rest = moved_same f g n xs h all.1 in
+    λ i. record { spec = x.spec; ends = ends i } ∷ rest i
+  where
+    ends_same : (ws : List ℕ) → AllByRecursion (λ w. w < n) ws → map f ws ≡ map g ws
+    ends_same [] all = refl
+    ends_same (w ∷ ws) all = let first = h w all.0 in let rest = ends_same ws all.1 in λ i. first i ∷ rest i
+
+node_at : (xs : List Node) (n : ℕ) → n < length xs → (x : Node) × (slice_get xs n ≡ Some x)
+node_at [] n h = absurd (omega arith)
+node_at (x ∷ xs) zero h = (x, refl)
+node_at (x ∷ xs) (suc n) h = node_at xs n (omega arith)
+
+pub all_dropped : (P : Node → Type 0) (xs : List Node) → AllByRecursion P xs → AllByRecursion P (drop 1 xs)
+all_dropped P [] all = tt
+all_dropped P (x ∷ xs) all = all.1
+
+module _ (c : Circuit) (a : ℕ) (m : Circuit) (fit : Fitting c a m) (x y : Node) (here : slice_get c.nodes a ≡ Some x) (there : slice_get m.nodes 0 ≡ Some y) where
+  same_ends : length x.ends ≡ length y.ends
+  same_ends =
+      let first = all_nodes (Fits c.wires) c.nodes a x fit.fit_net here in
+      let second = all_nodes (Fits m.wires) m.nodes 0 y fit.fit_part there in
+      let specs : x.spec ≡ y.spec = same_Some x.spec y.spec (sym (ap spec_of here) ∙ fit.same ∙ ap spec_of there) in
+      first.sized ∙ ap (λ s. length (outs_of s)) specs ∙ sym second.sized
+
+  alone : (u p q : ℕ) → u < m.wires → p < length y.ends → q < length y.ends → get_or y.ends p 0 ≡ u → get_or y.ends q 0 ≡ u → q ≡ p
+  alone u p q l in_p in_q at_p at_q = elim (cases_eq q p) [
+    | inl e ↦ e
+    | inr ne ↦ absurd (elim (cases_lt p q) [
+      | inl h ↦ fit.not_through u l (count_around m fit.fit_part fit.closed_part 0 y there u (count_two u y.ends p q h in_q at_p at_q))
+      | inr h ↦ fit.not_through u l (count_around m fit.fit_part fit.closed_part 0 y there u (count_two u y.ends q p (omega arith) in_p at_q at_p))
+    ])
+  ]
+
+  from_port : (u p : ℕ) → u < m.wires → end_at m 0 p ≡ u → renumber c a m u ≡ end_at c a p → p < length y.ends → written y.ends x.ends u None ≡ Some (renumber c a m u)
+  from_port u p l at number in_p =
+      let at' : get_or y.ends p 0 ≡ u = ap (λ o. end_of o p) (sym there) ∙ at in
+      written_at y.ends x.ends u None p same_ends in_p at' (λ q in_q at_q. alone u p q l in_p in_q at' at_q)
+      ∙ ap Some (ap (λ o. end_of o p) (sym here) ∙ sym number)
+
+  port_in : (u p : ℕ) → u < m.wires → (gives m 0 p ≡ true) ⊎ (takes m 0 p ≡ true) → p < length y.ends
+  port_in u p l side =
+      let fits = all_nodes (Fits m.wires) m.nodes 0 y fit.fit_part there in
+      let many : length (directions m 0) ≡ length y.ends = ap (λ o. length (directions_at 0 o)) there ∙ same_ports 0 y ∙ sym fits.sized in
+      elim side [
+        | inl g ↦ (let at = (gives_there m 0 p g).1 in omega arith)
+        | inr t ↦ (let at = (takes_there m 0 p t).1 in omega arith)
+      ]
+
+  not_inner : (u : ℕ) → (driver m u ≡ 0) ⊎ (receiver m u ≡ 0) → is_inner m u ≡ true → ⊥
+  unfolding is_inner
+  not_inner u (inl e) h = let parts = and_parts (not (nat_eq (driver m u) 0)) (not (nat_eq (receiver m u) 0)) h in
+      false≢true (sym (ap not (eq-eqb (driver m u) 0 e)) ∙ parts.0)
+  not_inner u (inr e) h = let parts = and_parts (not (nat_eq (driver m u) 0)) (not (nat_eq (receiver m u) 0)) h in
+      false≢true (sym (ap not (eq-eqb (receiver m u) 0 e)) ∙ parts.1)
+
+  filled_at : (u : ℕ) → u < m.wires → Entering c a m u ⊎ (Leaving c a m u ⊎ Inner c a m u)
+      → Filled c.wires (is_inner m) (λ w. written y.ends x.ends w None) (renumber c a m) u
+  filled_at u l (inl k) = record {
+    fresh = λ h. absurd (not_inner u (inl k.from) h);
+    kept = λ h. from_port u (output m u) l k.back k.number (port_in u (output m u) l (inl (sym (taken_there c a m fit (output m u)) ∙ k.taken)));
+  }
+  filled_at u l (inr (inl k)) = record {
+    fresh = λ h. absurd (not_inner u (inr k.goes) h);
+    kept = λ h. from_port u (input m u) l k.back k.number (port_in u (input m u) l (inr (sym (given_there c a m fit (input m u)) ∙ k.given)));
+  }
+  filled_at u l (inr (inr k)) = record {
+    fresh = λ h. (
+      written_none y.ends x.ends u None same_ends (λ p in_p at. elim (port_ends m fit.fit_part fit.closed_part 0 y there p in_p) [
+        | inl e ↦ k.from (ap (driver m) (sym at) ∙ e)
+        | inr e ↦ k.goes (ap (receiver m) (sym at) ∙ e)
+      ]),
+      k.number,
+    );
+    kept = λ h. absurd (false≢true (sym h ∙ k.inner));
+  }
+
+  both_are : (filled (map (λ w. written y.ends x.ends w None) (range_with_len 0 m.wires)) c.wires ≡ map (renumber c a m) (range_with_len 0 m.wires))
+      × (after_filled (map (λ w. written y.ends x.ends w None) (range_with_len 0 m.wires)) c.wires ≡ c.wires + rank (is_inner m) m.wires)
+  both_are =
+      let start : c.wires ≡ c.wires + rank (is_inner m) 0 = rank_none c.wires (is_inner m) in
+      let (table, count) = filled_is c.wires (is_inner m) (λ w. written y.ends x.ends w None) (renumber c a m) 0 m.wires c.wires start
+      (λ u h l. let lt : u < m.wires = omega arith in filled_at u lt (kind c a m fit u lt)) in
+      (table, count ∙ ap (λ n. c.wires + rank (is_inner m) n) (let z : 0 + m.wires ≡ m.wires = omega arith in z))
+
+-- The table and the number of wires that the code makes of the ends at both nodes.
+pub numbers_are : (c : Circuit) (a : ℕ) (m : Circuit) → Fitting c a m → (inner outer : List ℕ) → inner ≡ ends_of (slice_get m.nodes 0) → outer ≡ ends_of (slice_get c.nodes a)
+    → (filled (map (λ w. written inner outer w None) (range_with_len 0 m.wires)) c.wires ≡ map (renumber c a m) (range_with_len 0 m.wires))
+    × (after_filled (map (λ w. written inner outer w None) (range_with_len 0 m.wires)) c.wires ≡ c.wires + rank (is_inner m) m.wires)
+numbers_are c a m fit inner outer e f =
+    let (y, there) = node_at m.nodes 0 fit.some in
+    let (x, here) = node_at c.nodes a fit.inside in
+    let ye : inner ≡ y.ends = e ∙ ap ends_of there in
+    let xe : outer ≡ x.ends = f ∙ ap ends_of here in
+    rw (ye, xe) (both_are c a m fit x y here there)
+
+pub same_length : (c : Circuit) (a : ℕ) (m : Circuit) → Fitting c a m → (inner outer : List ℕ) → inner ≡ ends_of (slice_get m.nodes 0) → outer ≡ ends_of (slice_get c.nodes a)
+    → length outer ≡ length inner
+same_length c a m fit inner outer e f =
+    let (y, there) = node_at m.nodes 0 fit.some in
+    let (x, here) = node_at c.nodes a fit.inside in
+    let ye : inner ≡ y.ends = e ∙ ap ends_of there in
+    let xe : outer ≡ x.ends = f ∙ ap ends_of here in
+    rw (ye, xe) (same_ends c a m fit x y here there)
+
+-- The network with the moved components is the spliced one.
+pub spliced_is : (c : Circuit) (a : ℕ) (m : Circuit) → Fitting c a m → (nodes : List Node) (table : List ℕ) (wires : ℕ) → table ≡ map (renumber c a m) (range_with_len 0 m.wires)
+    → wires ≡ c.wires + rank (is_inner m) m.wires → nodes ≡ map (moved (λ w. get_or table w 0)) (drop 1 m.nodes) → replaced c a nodes wires ≡ spliced c a m
+unfolding spliced
+spliced_is c a m fit nodes table wires e f g =
+    let known : (w : ℕ) → w < m.wires → get_or table w 0 ≡ renumber c a m w =
+    λ w l. ap (λ t. get_or t w 0) e ∙ get_or-map-range_with_len (renumber c a m) 0 m.wires w w 0 l (omega arith) in
+    let moves : nodes ≡ map (moved (renumber c a m)) (drop 1 m.nodes) =
+    g ∙ moved_same (λ w. get_or table w 0) (renumber c a m) m.wires (drop 1 m.nodes) known (all_dropped (Fits m.wires) m.nodes fit.fit_part) in
+    λ i. record { nodes = take a c.nodes ++ (moves i ++ drop (suc a) c.nodes); wires = f i }
+
+rank_few : (f : ℕ → Bool) (n : ℕ) → rank f n ≤ n
+rank_few f zero = let none = rank_none 0 f in omega arith
+rank_few f (suc n) = elim (cases_Bool (f n)) [
+  | inl e ↦ omega (arith, rank_more f n e, rank_few f n)
+  | inr e ↦ omega (arith, rank_stays f n e, rank_few f n)
+]
+
+spliced_count : (c : Circuit) (a : ℕ) (m : Circuit) → (spliced c a m).wires ≤ c.wires + m.wires
+unfolding spliced
+spliced_count c a m = omega (arith, rank_few (is_inner m) m.wires)
+
+-- It has fewer nodes than 2 ^ 32 where the wires of both are fewer than 2 ^ 31.
+pub spliced_few : (c : Circuit) (a : ℕ) (m : Circuit) → Fitting c a m → c.wires + m.wires < 2 ^ 31 → length (spliced c a m).nodes < 2 ^ 32
+spliced_few c a m fit few =
+    omega (arith, nodes_few (spliced c a m) (spliced_fits c a m fit) (spliced_closed c a m fit), spliced_count c a m)
+
+-- what holds of the spliced network holds of the network that equals it
+pub landed : {E : Type 0} (F : Type 0) (P : Circuit → Type 0) (s : Circuit) (r : Result Circuit E) → IfOk r (λ w. w ≡ s) → IfOk r (λ w. F) → (F → P s) → IfOk r P
+landed F P s (Err x) e f h = tt
+landed F P s (Ok w) e f h = subst P (sym e) (h f)

@@ -1,0 +1,167 @@
+ghost use Rattle.std.specs.Prelude.{◌≡◌, ◌⊎◌, ◌↔◌, ℕ, ◌+◌, ◌<◌, ◌^◌, length, map, drop, slice_get, slice_index, IsTrue, IfOk, IfErr, MatchOption};
+ghost use Rattle.std.specs.List.{AllByRecursion, range_with_len};
+ghost use Rattle.net_core.specs.declared.spec.NodeSpec.{NodeSpec};
+ghost use Rattle.net_core.specs.Wiring.{Fits, IsClosed, moved, replaced};
+ghost use Rattle.net_core.specs.Networks.{IsClean, SoundFor, Correct};
+ghost use Rattle.substitute.specs.Splice.{spliced, Fitting, renumber, rank, is_inner};
+ghost use Rattle.substitute.specs.Refusals.{IsSame, IsAround, IsNone, IsLeast, Refuses, ends_of};
+
+use crate::renumber::{Numbers, fill_numbers, fused_wires, moved_nodes, repeated};
+use net_core::{Net, Node, same_spec};
+use std::alloc::{AllocError, Global};
+
+/// Why a network does not take the place of a node.
+#[derive(Debug, Clone, Copy, PartialEq, Eq)]
+pub enum SpliceRefusal {
+    /// The node is specified in another way than the network.
+    SpecDiffers,
+    /// The wire of the network goes from its environment to its environment.
+    ThroughWire { wire: u32 },
+    /// The wire goes from the node to itself.
+    SelfWire { wire: u32 },
+    NoMemory,
+}
+
+/// The network with the components of `sub` in the place of its node `at`, in their order. A wire at the
+/// environment of `sub` is fused with the wire at the same port of `at`, which keeps its number; the other
+/// wires of `sub` take the next numbers in their order. A refusal hands the network back unchanged: where
+/// the specifications differ, else where a wire of `sub` goes from its environment to its environment, else
+/// where a wire of the network goes from `at` to itself; both name the least such wire.
+pub fn splice(alloc: Global, net: Net, at: u32, sub: &Net) -> Result<Net, (Net, SpliceRefusal)>
+    requires closed_net { IsClosed net }
+    requires closed_sub { IsClosed sub.now }
+    requires component { 0 < at }
+    requires inside { at < length net.nodes }
+    requires few { net.wires + sub.now.wires < 2 ^ 31 }
+    ensures ok { IfOk result (λ whole. whole ≡ spliced net at sub.now) }
+    ensures fitting { IfOk result (λ whole. Fitting net at sub.now) }
+    ensures refused { IfErr result (λ refusal. refusal.0 ≡ net) }
+    ensures reason { IfErr result (λ refusal. Refuses net at sub.now refusal.1) }
+    ensures closed { IfOk result (λ whole. IsClosed whole) }
+    ensures clean { IsClean net → IsClean sub.now → IfOk result (λ whole. IsClean whole) }
+    ensures sound { (s t : NodeSpec) → SoundFor net s → SoundFor sub.now t → IfOk result (λ whole. SoundFor whole s) }
+    ensures correct { (s t : NodeSpec) → Correct net s → Correct sub.now t → IfOk result (λ whole. Correct whole s) }
+    ensures no_wire { IsClean net → IsClean sub.now → IfErr result (λ refusal. (refusal.1 ≡ SpliceRefusal.SpecDiffers) ⊎ (refusal.1 ≡ SpliceRefusal.NoMemory)) }
+{
+    put_in_place(alloc, net, at, sub)
+}
+
+fn put_in_place(alloc: Global, net: Net, at: u32, sub: &Net) -> Result<Net, (Net, SpliceRefusal)>
+    requires closed_net { IsClosed net }
+    requires closed_sub { IsClosed sub.now }
+    requires component { 0 < at }
+    requires inside { at < length net.nodes }
+    requires few { net.wires + sub.now.wires < 2 ^ 31 }
+    ensures ok { IfOk result (λ whole. whole ≡ spliced net at sub.now) }
+    ensures fitting { IfOk result (λ whole. Fitting net at sub.now) }
+    ensures refused { IfErr result (λ refusal. refusal.0 ≡ net) }
+    ensures reason { IfErr result (λ refusal. Refuses net at sub.now refusal.1) }
+{
+    if let Some(refusal) = obstacle(alloc, &net, at, sub) {
+        return Err((net, refusal));
+    }
+    match new_parts(alloc, &net, at, sub) {
+        Err(_) => Err((net, SpliceRefusal::NoMemory)),
+        Ok(parts) => match net.replace(alloc, at, parts.nodes, parts.wires) {
+            Err((net, _)) => Err((net, SpliceRefusal::NoMemory)),
+            Ok(whole) => Ok(whole),
+        },
+    }
+}
+
+/// What keeps `sub` from taking the place of the node.
+fn obstacle(alloc: Global, net: &Net, at: u32, sub: &Net) -> Option<SpliceRefusal>
+    requires closed_net { IsClosed net.now }
+    requires closed_sub { IsClosed sub.now }
+    requires component { 0 < at }
+    requires inside { at < length net.now.nodes }
+    ensures { MatchOption result (Fitting net.now at sub.now) (λ refusal. Refuses net.now at sub.now refusal) }
+{
+    well(net);
+    well(sub);
+    if !is_same(net, at, sub) {
+        return Some(SpliceRefusal::SpecDiffers);
+    }
+    match around(alloc, sub, 0) {
+        Err(_) => Some(SpliceRefusal::NoMemory),
+        Ok(Some(wire)) => Some(SpliceRefusal::ThroughWire { wire }),
+        Ok(None) => match around(alloc, net, at) {
+            Err(_) => Some(SpliceRefusal::NoMemory),
+            Ok(Some(wire)) => Some(SpliceRefusal::SelfWire { wire }),
+            Ok(None) => None,
+        },
+    }
+}
+
+/// Each node of a network has its wires, and it has an environment.
+fn well(net: &Net)
+    ensures fit { AllByRecursion (Fits net.now.wires) net.now.nodes }
+    ensures some { 0 < length net.now.nodes }
+{
+    let _ = &net.nodes;
+}
+
+fn is_same(net: &Net, at: u32, sub: &Net) -> bool
+    requires inside { at < length net.now.nodes }
+    ensures { IsTrue result ↔ IsSame net.now at sub.now }
+{
+    same_spec(&net.nodes[at as usize].spec, &sub.nodes[0].spec)
+}
+
+/// The least wire that goes from the node to itself.
+fn around(alloc: Global, net: &Net, node: u32) -> Result<Option<u32>, AllocError>
+    requires closed { IsClosed net.now }
+    requires inside { node < length net.now.nodes }
+    ensures { IfOk result (λ found. MatchOption found (IsNone (IsAround net.now node) net.now.wires) (λ w. IsLeast (IsAround net.now node) net.now.wires w)) }
+{
+    repeated(alloc, wires_of(net, node), net.wires)
+}
+
+/// The wires at the ports of a node.
+fn wires_of(net: &Net, node: u32) -> &[u32]
+    requires inside { node < length net.now.nodes }
+    ensures ends { result.now ≡ ends_of (slice_get net.now.nodes node) }
+    ensures known { AllByRecursion (λ w. w < net.now.wires) result.now }
+{
+    &net.nodes[node as usize].wires
+}
+
+/// The components that take the place of a node, and how many wires there then are.
+#[derive(Drop)]
+struct Parts {
+    nodes: Vec<Node>,
+    wires: u32,
+}
+
+/// The components of `sub` with their numbers in the whole.
+fn new_parts(alloc: Global, net: &Net, at: u32, sub: &Net) -> Result<Parts, AllocError>
+    requires fitting { Fitting net.now at sub.now }
+    requires few { net.now.wires + sub.now.wires < 2 ^ 31 }
+    ensures { IfOk result (λ parts. replaced net.now at parts.nodes.items parts.wires ≡ spliced net.now at sub.now) }
+{
+    let numbers = new_numbers(alloc, net, at, sub)?;
+    let nodes = moved_parts(alloc, sub, &numbers.table)?;
+    Ok(Parts {
+        nodes,
+        wires: numbers.wires,
+    })
+}
+
+/// The number of each wire of `sub` in the whole, and how many wires the whole has.
+fn new_numbers(alloc: Global, net: &Net, at: u32, sub: &Net) -> Result<Numbers, AllocError>
+    requires fitting { Fitting net.now at sub.now }
+    requires few { net.now.wires + sub.now.wires < 2 ^ 31 }
+    ensures table { IfOk result (λ numbers. numbers.table.items ≡ map (renumber net.now at sub.now) (range_with_len 0 sub.now.wires)) }
+    ensures wires { IfOk result (λ numbers. numbers.wires ≡ net.now.wires + rank (is_inner sub.now) sub.now.wires) }
+{
+    let fused = fused_wires(alloc, wires_of(sub, 0), wires_of(net, at), sub.wires)?;
+    fill_numbers(alloc, fused.as_slice(), net.wires)
+}
+
+/// Copies of the components of a network, with the table's numbers for their wires.
+fn moved_parts(alloc: Global, sub: &Net, table: &[u32]) -> Result<Vec<Node>, AllocError>
+    requires { length table.now ≡ sub.now.wires }
+    ensures { IfOk result (λ nodes. nodes.items ≡ map (moved (λ w. slice_index table.now w)) (drop 1 sub.now.nodes)) }
+{
+    moved_nodes(alloc, &sub.nodes[1..], table)
+}
