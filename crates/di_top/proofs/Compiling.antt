@@ -1,6 +1,8 @@
--- From what was read of a file to what is promised of its network.
+-- From what was read of a file to what is answered and printed of it.
 use Rattle.std.proofs.Common.{◌≡◌, ℕ, List, Some, refl, sym, subst, inl, inr, IfOk, IfErr, IsErrAnd}
 use Rattle.std.specs.Prelude.{◌⊎◌, Ok, Err, Result}
+use Rattle.cmd_tree.specs.declared.command.Command.{Command}
+use Rattle.cmd_tree.specs.declared.tree.Proc.{Proc}
 use Rattle.net_core.specs.Wiring.{Circuit}
 use Rattle.net_core.specs.Networks.{IsBasic, Correct}
 use Rattle.net_core.specs.declared.spec.NodeSpec.TheVariants.{Cmd}
@@ -8,43 +10,68 @@ use Rattle.di_top.specs.declared.form.Form.{Form}
 use Rattle.di_top.specs.declared.outcome.Outcome.{Outcome}
 use Rattle.di_top.specs.declared.outcome.Outcome.TheVariants.{Done, Refused, NoMemory}
 use Rattle.di_top.specs.declared.outcome.Why.TheVariants.{NotThisForm}
-use Rattle.di_top.specs.FormText.{IsFormText}
-use Rattle.di_top.specs.FormRead.{IsRead, IsFormed}
+use Rattle.di_top.specs.Forms.{TakesThenGives, Compiles, IsFormed}
 use Rattle.di_top.specs.FormNets.{form_net}
 use Rattle.di_top.specs.NetText.{net_text}
-use Rattle.di_top.specs.Requests.{Request, CompileWide}
+use Rattle.di_top.specs.Requests.{Request, CompileWide, Check}
 use Rattle.di_top.specs.Calls.{Reading, Loaded}
-use Rattle.di_top.specs.CompileForm.{command_cap, Compiled, CompileGives, Fault, Bytes, Formed, Unformed, CompilePrints}
+use Rattle.di_top.specs.CommandFiles.{command_cap, StopsWith, FileStops, Bytes, FileHolds, FileGives, Stopped, Taken}
+use Rattle.di_top.specs.CompileForm.{Compiled, CompiledTo}
+use Rattle.di_top.specs.CheckForm.{counts_of, counts_text}
 use Rattle.di_top.specs.Outcomes.{Gives, Prints}
 use Rattle.di_top.specs.Plans.{IsStop}
 use Rattle.di_top.proofs.FormNet.{form_net_basic, form_net_correct}
+use Rattle.di_top.proofs.Stops.{stops_are_stops}
 
--- the network of a text that was read
+-- the network of a command of the form
 pub compiled : (form : Form) (net : Circuit) → IsFormed form → net ≡ form_net form.command form.inputs form.outputs → Compiled form net
 compiled form net f e =
-    let t = f.read in
-    let basic : IsBasic (form_net form.command form.inputs form.outputs) =
-    form_net_basic form.command t.ins t.outs form.inputs form.outputs t.inputs t.outputs t.text.some_in t.text.some_out t.text.few t.command in
-    let correct : Correct (form_net form.command form.inputs form.outputs) (Cmd form.command) =
-    form_net_correct form.command t.ins t.outs form.inputs form.outputs t.inputs t.outputs t.text.some_in t.text.some_out t.text.few t.command in
     let P : Circuit → Type 0 = IsBasic in
     let Q : Circuit → Type 0 = λ n. Correct n (Cmd form.command) in
-    record { basic = subst P (sym e) basic; correct = subst Q (sym e) correct; shaped = e }
+    record {
+      basic = subst P (sym e) (form_net_basic form.command form.inputs form.outputs f);
+      correct = subst Q (sym e) (form_net_correct form.command form.inputs form.outputs f);
+      shaped = e;
+    }
 
-pub read_gives : (r : Reading) (file bytes : List ℕ) (form : Form) → Loaded r file command_cap bytes → IsRead bytes form
-    → Gives (Some (CompileWide file)) r Done
-read_gives r file bytes form l t = inr (Bytes bytes l (Formed t.ins t.outs t.text refl))
+pub compiled_to : (command : Command) (form : Form) (net : Circuit) → IsFormed form × (form.command ≡ command) → Compiled form net → CompiledTo command net
+compiled_to command form net (f, e) c = record { form = form; of_command = e; formed = f; compiled = c }
 
-pub read_prints : (r : Reading) (file bytes : List ℕ) (form : Form) (net : Circuit) → Loaded r file command_cap bytes → IsRead bytes form
-    → Compiled form net → Prints (Some (CompileWide file)) r (net_text net)
-read_prints r file bytes form net l t c = record { bytes = bytes; loaded = l; compiled = record { form = form; read = t; net = net; compiled = c; is = refl } }
+pub compiles : (command : Command) (net : Circuit) → CompiledTo command net → Compiles command.procs
+compiles command net c =
+    let P : Command → Type 0 = λ d. TakesThenGives d.procs c.form.inputs c.form.outputs in
+    record { inputs = c.form.inputs; outputs = c.form.outputs; form = subst P c.of_command c.formed }
 
--- bytes that were loaded and not read
-pub read_stops : (r : Reading) (file bytes : List ℕ) (stop : Outcome) → Loaded r file command_cap bytes
-    → ((stop ≡ NoMemory) ⊎ ((stop ≡ Refused NotThisForm) × ((ins outs : List (List ℕ)) → IsFormText bytes ins outs → ⊥)))
+pub compile_done : (r : Reading) (file : List ℕ) (command : Command) (net : Circuit) → FileHolds r file command.names command.procs
+    → CompiledTo command net → Gives (Some (CompileWide file)) r Done × Prints (Some (CompileWide file)) r (net_text net)
+compile_done r file command net h c = (
+  inr (Taken command.names command.procs h (inl (compiles command net c, refl))),
+  record { command = command; held = h; netlist = record { net = net; compiled = c; is = refl } },
+)
+
+-- an admitted command that does not compile
+pub compile_stops : (r : Reading) (file : List ℕ) (command : Command) (stop : Outcome) → FileHolds r file command.names command.procs
+    → ((stop ≡ NoMemory) ⊎ ((Compiles command.procs → ⊥) × (stop ≡ Refused NotThisForm)))
     → IsStop stop × Gives (Some (CompileWide file)) r stop
-read_stops r file bytes stop l (inl e) = let P : Outcome → Type 0 = IsStop in (subst P (sym e) tt, inl e)
-read_stops r file bytes stop l (inr (e, none)) = let P : Outcome → Type 0 = IsStop in (subst P (sym e) tt, inr (Bytes bytes l (Unformed none e)))
+compile_stops r file command stop h (inl e) = let P : Outcome → Type 0 = IsStop in (subst P (sym e) tt, inl e)
+compile_stops r file command stop h (inr (other, e)) =
+    let P : Outcome → Type 0 = IsStop in (subst P (sym e) tt, inr (Taken command.names command.procs h (inr (other, e))))
+
+pub check_done : (r : Reading) (file : List ℕ) (command : Command) → FileHolds r file command.names command.procs
+    → Gives (Some (Check file)) r Done × Prints (Some (Check file)) r (counts_text (counts_of command.names command.procs))
+check_done r file command h = (inr (Taken command.names command.procs h refl), record { names = command.names; procs = command.procs; held = h; is = refl })
+
+-- a file that gives no admitted command
+pub file_stops : (Used : List Proc → Outcome → Type 0) (r : Reading) (file : List ℕ) (stop : Outcome)
+    → IsStop stop × ((stop ≡ NoMemory) ⊎ FileStops r file stop) → IsStop stop × ((stop ≡ NoMemory) ⊎ FileGives Used r file stop)
+file_stops Used r file stop (i, inl e) = (i, inl e)
+file_stops Used r file stop (i, inr s) = (i, inr (Stopped s))
+
+-- bytes that were loaded and give none
+pub bytes_stop : (r : Reading) (file bytes : List ℕ) (stop : Outcome) → Loaded r file command_cap bytes
+    → ((stop ≡ NoMemory) ⊎ StopsWith bytes stop) → IsStop stop × ((stop ≡ NoMemory) ⊎ FileStops r file stop)
+bytes_stop r file bytes stop l (inl e) = let P : Outcome → Type 0 = IsStop in (subst P (sym e) tt, inl e)
+bytes_stop r file bytes stop l (inr s) = (stops_are_stops bytes stop s, inr (Bytes bytes l s))
 
 pub if_ok : {A E : Type 0} (r : Result A E) (P Q : A → Type 0) → ((x : A) → P x → Q x) → IfOk r P → IfOk r Q
 if_ok (Ok x) P Q f h = f x h

@@ -1,22 +1,27 @@
 -- What is promised of a call, from the way in which it ended.
 use Rattle.std.proofs.Common.{◌≡◌, ◌≢◌, ap, ◌<◌, ◌≤◌, ◌+◌, ◌-◌, ◌^◌, ℕ, List, [], Option, Some, None, arith, rules, refl, sym, ◌∙◌, subst, inl, inr, take, length, min}
 use Rattle.std.proofs.lemmas.List.{take_all, length-take}
-use Rattle.std.specs.Prelude.{◌⊎◌}
+use Rattle.std.specs.Prelude.{◌⊎◌, ⊤}
 use Rattle.di_io.specs.Faults.{Rose}
+use Rattle.cmd_tree.specs.declared.tree.Proc.{Proc}
 use Rattle.di_top.specs.declared.outcome.Outcome.{Outcome}
 use Rattle.di_top.specs.declared.outcome.Outcome.TheVariants.{Done, Refused, Usage, ReadFault, WriteFault, NoMemory}
 use Rattle.di_top.specs.declared.outcome.Why.TheVariants.{NotThisForm}
-use Rattle.di_top.specs.Requests.{Request, CompileWide, files_of}
+use Rattle.di_top.specs.Requests.{Request, CompileWide, Check, files_of}
 use Rattle.di_top.specs.Calls.{Reading, Change, Loaded, Unread, Quiet, Tells, Failed, Unchanged, Gained, GainedFront}
-use Rattle.di_top.specs.FormText.{IsFormText}
-use Rattle.di_top.specs.CompileForm.{command_cap, most_bytes, Judges, Formed, Unformed, CompileGives, Fault, Bytes, CompilePrints, CompileAdmits, IsAdmitted, IsCompiled}
+use Rattle.di_top.specs.Forms.{Compiles}
+use Rattle.di_top.specs.CommandFiles as held
+use Rattle.di_top.specs.CommandFiles.{command_cap, StopsWith, IsAdmittedText, IsSuited, FileHolds, FileGives, Fault, Bytes, Taken, FileAdmits}
+use Rattle.di_top.specs.CompileForm.{CompileUses, CompileGives, CompileAdmits}
+use Rattle.di_top.specs.CheckForm.{CheckUses, CheckGives, CheckAdmits}
 use Rattle.di_top.specs.Outcomes.{Gives, Prints, Admits}
 use Rattle.di_top.specs.Plans.{IsStop}
 use Rattle.di_top.specs.Say.{say_line}
 use Rattle.di_top.specs.Ends.{Spoke, Spoken, Broken, Ends, Finished, Stopped, Cut}
 use Rattle.di_top.specs.Promised.{Promise, Printed, CutText, CutLine, FaultTable, CanRise}
 use Rattle.di_top.specs.Headline.{Faultless, Headline, Appended}
-use Rattle.di_top.proofs.FormLengths.{form_short}
+use Rattle.di_top.proofs.Stops.{loaded_whole, not_stopped, one_text, stops_are_stops}
+use Rattle.di_top.proofs.Compiling.{compiles}
 use Rattle.di_io.proofs.Puts.{front_whole}
 
 stop_not_done : (o : Outcome) → IsStop o → o ≢ Done
@@ -25,55 +30,72 @@ stop_not_done o s e = let P : Outcome → Type 0 = IsStop in subst P e s
 stop_not_fault : (o : Outcome) → IsStop o → o ≢ WriteFault
 stop_not_fault o s e = let P : Outcome → Type 0 = IsStop in subst P e s
 
--- bytes that are of the form are the whole content
-loaded_whole : (r : Reading) (file bytes : List ℕ) (ins outs : List (List ℕ)) → Loaded r file command_cap bytes
-    → IsFormText bytes ins outs → (all : List ℕ) → r.content file ≡ Some all → bytes ≡ all
-loaded_whole r file bytes ins outs l t all told =
-    let short = form_short bytes ins outs t in
-    let cut : bytes ≡ take command_cap all = l.told all told in
-    let few : length all ≤ 40000 = omega (arith, ap length cut, length-take command_cap all) in
-    cut ∙ take_all command_cap all (omega arith)
+-- the file of an admitted command that suits
+holds_admits : (Suits : List Proc → Type 0) (r : Reading) (file : List ℕ) (names : List (List ℕ)) (procs : List Proc) → FileHolds r file names procs
+    → Suits procs → (all : List ℕ) → r.content file ≡ Some all → FileAdmits Suits r file
+holds_admits Suits r file names procs h s all told =
+    let P : List ℕ → Type 0 = λ b. IsAdmittedText b names procs in
+    let same : h.bytes ≡ all = loaded_whole r file h.bytes h.loaded h.admitted.source.read.few all told in
+    record { content = all; told = told; suited = record { names = names; procs = procs; text = subst P same h.admitted; suits = s } }
 
--- so the content is admitted
-loaded_admits : (r : Reading) (file bytes : List ℕ) (ins outs : List (List ℕ)) → Loaded r file command_cap bytes
-    → IsFormText bytes ins outs → (all : List ℕ) → r.content file ≡ Some all → CompileAdmits r file
-loaded_admits r file bytes ins outs l t all told =
-    let short = form_short bytes ins outs t in
-    let P : List ℕ → Type 0 = IsAdmitted in
-    let admitted : IsAdmitted bytes = record { few = omega arith; ins = ins; outs = outs; text = t } in
-    record { content = all; told = told; admitted = subst P (loaded_whole r file bytes ins outs l t all told) admitted }
+file_only : (Used : List Proc → Outcome → Type 0) (Suits : List Proc → Type 0) → ((procs : List Proc) → Used procs Done → Suits procs)
+    → (r : Reading) (file : List ℕ) → FileGives Used r file Done → (all : List ℕ) → r.content file ≡ Some all → FileAdmits Suits r file
+file_only Used Suits suits r file (held.Stopped (Fault rose e)) all told = absurd (cc)
+file_only Used Suits suits r file (held.Stopped (Bytes bytes l s)) all told = absurd (stops_are_stops bytes Done s)
+file_only Used Suits suits r file (Taken names procs h u) all told = holds_admits Suits r file names procs h (suits procs u) all told
+
+-- bytes that were loaded of an admitted file are its content
+loaded_content : (Suits : List Proc → Type 0) (r : Reading) (file bytes : List ℕ) (a : FileAdmits Suits r file) → Loaded r file command_cap bytes → bytes ≡ a.content
+loaded_content Suits r file bytes a l = l.told a.content a.told ∙ take_all command_cap a.content (omega (arith, a.suited.text.source.read.few))
+
+file_admitted : (Used : List Proc → Outcome → Type 0) (Suits : List Proc → Type 0) (stop : Outcome) → ((procs : List Proc) → Suits procs → Used procs stop → ⊥)
+    → (r : Reading) (file : List ℕ) → FileAdmits Suits r file → (Unread r file → ⊥) → FileGives Used r file stop → ⊥
+file_admitted Used Suits stop no r file a quiet (held.Stopped (Fault rose e)) = quiet rose
+file_admitted Used Suits stop no r file a quiet (held.Stopped (Bytes bytes l s)) =
+    let P : List ℕ → Type 0 = λ b. StopsWith b stop in
+    not_stopped a.content a.suited.names a.suited.procs stop a.suited.text (subst P (loaded_content Suits r file bytes a l) s)
+file_admitted Used Suits stop no r file a quiet (Taken names procs h u) =
+    let P : List ℕ → Type 0 = λ b. IsAdmittedText b names procs in
+    let Q : List Proc → Type 0 = λ ps. Used ps stop in
+    let t : IsAdmittedText a.content names procs = subst P (loaded_content Suits r file h.bytes a h.loaded) h.admitted in
+    no a.suited.procs a.suited.suits (subst Q (one_text a.content names a.suited.names procs a.suited.procs t a.suited.text) u)
+
+compile_suits : (procs : List Proc) → CompileUses procs Done → Compiles procs
+compile_suits procs (inl (c, e)) = c
+compile_suits procs (inr (none, e)) = absurd (cc)
+
+compile_no_stop : (stop : Outcome) → IsStop stop → (procs : List Proc) → Compiles procs → CompileUses procs stop → ⊥
+compile_no_stop stop s procs c (inl (d, e)) = stop_not_done stop s e
+compile_no_stop stop s procs c (inr (none, e)) = none c
 
 compile_only : (r : Reading) (file : List ℕ) → CompileGives r file Done → (all : List ℕ) → r.content file ≡ Some all → CompileAdmits r file
-compile_only r file (Fault e rose) all told = absurd (cc)
-compile_only r file (Bytes bytes l (Formed ins outs t e)) all told = loaded_admits r file bytes ins outs l t all told
-compile_only r file (Bytes bytes l (Unformed none e)) all told = absurd (cc)
+compile_only r file g all told = file_only CompileUses Compiles compile_suits r file g all told
 
-compile_admitted : (r : Reading) (file : List ℕ) (stop : Outcome) → CompileAdmits r file → (Unread r file → ⊥) → IsStop stop
-    → CompileGives r file stop → stop ≡ NoMemory
-compile_admitted r file stop a quiet s (Fault e rose) = absurd (quiet rose)
-compile_admitted r file stop a quiet s (Bytes bytes l (Formed ins outs t e)) = absurd (stop_not_done stop s e)
-compile_admitted r file stop a quiet s (Bytes bytes l (Unformed none e)) =
-    let same : bytes ≡ a.content = l.told a.content a.told ∙ take_all command_cap a.content (omega (arith, a.admitted.few)) in
-    let P : List ℕ → Type 0 = λ b. IsFormText b a.admitted.ins a.admitted.outs in
-    absurd (none a.admitted.ins a.admitted.outs (subst P (sym same) a.admitted.text))
+check_only : (r : Reading) (file : List ℕ) → CheckGives r file Done → (all : List ℕ) → r.content file ≡ Some all → CheckAdmits r file
+check_only r file g all told = file_only CheckUses (λ procs. ⊤) (λ procs u. tt) r file g all told
 
 -- where files are admitted and read, a call stops for want of memory alone
 admitted : (request : Option Request) (r : Reading) (stop : Outcome) → Admits request r → Quiet r (files_of request) → IsStop stop
     → Gives request r stop → stop ≡ NoMemory
 admitted None r stop a q s g = absurd a
 admitted (Some (CompileWide file)) r stop a q s (inl e) = e
-admitted (Some (CompileWide file)) r stop a q s (inr g) = compile_admitted r file stop a q.0 s g
+admitted (Some (CompileWide file)) r stop a q s (inr g) = absurd (file_admitted CompileUses Compiles stop (compile_no_stop stop s) r file a q.0 g)
+admitted (Some (Check file)) r stop a q s (inl e) = e
+admitted (Some (Check file)) r stop a q s (inr g) = absurd (file_admitted CheckUses (λ procs. ⊤) stop (λ procs u e. stop_not_done stop s e) r file a q.0 g)
 
 gives_admitted : (request : Option Request) (r : Reading) → Gives request r Done → Tells r (files_of request) → Admits request r
 gives_admitted None r (inl e) t = absurd (cc)
 gives_admitted None r (inr e) t = absurd (cc)
 gives_admitted (Some (CompileWide file)) r (inl e) t = absurd (cc)
 gives_admitted (Some (CompileWide file)) r (inr g) t = compile_only r file g t.0.0 t.0.1
+gives_admitted (Some (Check file)) r (inl e) t = absurd (cc)
+gives_admitted (Some (Check file)) r (inr g) t = check_only r file g t.0.0 t.0.1
 
 prints_admitted : (request : Option Request) (r : Reading) (text : List ℕ) → Prints request r text → Tells r (files_of request) → Admits request r
 prints_admitted None r text p t = absurd p
 prints_admitted (Some (CompileWide file)) r text p t =
-    loaded_admits r file p.bytes p.compiled.read.ins p.compiled.read.outs p.loaded p.compiled.read.text t.0.0 t.0.1
+    holds_admits Compiles r file p.command.names p.command.procs p.held (compiles p.command p.netlist.net p.netlist.compiled) t.0.0 t.0.1
+prints_admitted (Some (Check file)) r text p t = holds_admits (λ procs. ⊤) r file p.names p.procs p.held tt t.0.0 t.0.1
 
 -- a count that stayed did not rise
 still : (c : Change) → Unchanged c → CanRise c → Failed c → ⊥
@@ -240,23 +262,26 @@ appended : (r : Reading) (file content before : List ℕ) (out say : Change) (ou
 appended r file content before out say outcome f d =
     let p = (f.promise.done d).0 in
     let q = p.prints in
-    let P : List ℕ → Type 0 = λ b. IsCompiled b p.text in
-    let same : q.bytes ≡ content =
-    loaded_whole r file q.bytes q.compiled.read.ins q.compiled.read.outs q.loaded q.compiled.read.text content f.content_told in
-    record { text = p.text; compiled = subst P same q.compiled; gained = p.gained before f.out_told }
+    let P : List ℕ → Type 0 = λ b. IsAdmittedText b q.command.names q.command.procs in
+    let same : q.held.bytes ≡ content = loaded_whole r file q.held.bytes q.held.loaded q.held.admitted.source.read.few content f.content_told in
+    record {
+      text = p.text;
+      compiled = record { command = q.command; admitted = subst P same q.held.admitted; netlist = q.netlist };
+      gained = p.gained before f.out_told;
+    }
 
 done_admitted : (r : Reading) (file content before : List ℕ) (out say : Change) (outcome : Outcome)
-    → Faultless r file content before out say outcome → outcome ≡ Done → IsAdmitted content
+    → Faultless r file content before out say outcome → outcome ≡ Done → IsSuited Compiles content
 done_admitted r file content before out say outcome f d =
     let P : Outcome → Type 0 = λ o. Gives (Some (CompileWide file)) r o in
-    let Q : List ℕ → Type 0 = IsAdmitted in
+    let Q : List ℕ → Type 0 = IsSuited Compiles in
     let a = f.promise.only_admitted (subst P d (gave r file content before out say outcome f)) ((content, f.content_told), tt) in
-    subst Q (some_same a.content content (r.content file) a.told f.content_told) a.admitted
+    subst Q (some_same a.content content (r.content file) a.told f.content_told) a.suited
 
 admitted_done : (r : Reading) (file content before : List ℕ) (out say : Change) (outcome : Outcome)
-    → Faultless r file content before out say outcome → IsAdmitted content → outcome ≡ Done
+    → Faultless r file content before out say outcome → IsSuited Compiles content → outcome ≡ Done
 admitted_done r file content before out say outcome f a =
-    elim (f.promise.complete (record { content = content; told = f.content_told; admitted = a }) (f.read, tt) f.written f.said) [
+    elim (f.promise.complete (record { content = content; told = f.content_told; suited = a }) (f.read, tt) f.written f.said) [
       | inl m ↦ absurd (f.memory m)
       | inr d ↦ d
     ]

@@ -11,9 +11,9 @@ use Rattle.net_core.specs.Specs.{sides, outs_of, IsFormed, May}
 use Rattle.net_core.specs.Wiring.{Fits, IsClosed}
 use Rattle.net_core.specs.Networks.{IsBasic, IsClean, Correct}
 use Rattle.cmd_tree.specs.Rounds.{Rounds}
-use Rattle.di_top.specs.FormText.{IsFormCommand}
+use Rattle.di_top.specs.Forms.{TakesThenGives}
 use Rattle.di_top.specs.FormNets.{one_net, form_net}
-use Rattle.di_top.proofs.FormPorts.{form_outs}
+use Rattle.di_top.proofs.FormPorts.{names_are, form_outs}
 use Rattle.di_top.proofs.OneNet.{IsRight, one_right}
 use Rattle.di_top.proofs.JoinNet.{join_right}
 
@@ -59,26 +59,19 @@ right c (suc (suc n)) (suc (suc m)) some_in some_out few outs are =
     join_right c (suc (suc n)) (suc (suc m)) some_in some_out outs (join_formed (suc (suc n)) (omega arith) (omega arith)) (fork_formed (suc (suc m)) (omega arith) (omega arith))
     (command_traces c (suc (suc n)) (suc (suc m)) some_in some_out are) (join_traces (suc (suc n)) some_in) (fork_traces (suc (suc m)) some_out)
 
--- a command of the form, with no more symbols than a text has
-module _ (c : Command) (ins outs : List (List ℕ)) (n m : ℕ) (inputs : n ≡ length ins) (outputs : m ≡ length outs)
-    (some_in : 0 < length ins) (some_out : 0 < length outs) (few : length ins + length outs ≤ 1024) (form : IsFormCommand c ins outs) where
+-- a command of the form
+module _ (c : Command) (n m : ℕ) (form : TakesThenGives c.procs n m) where
+  pub few_symbols : n + m ≤ 1024
+  few_symbols = omega (arith, names_are c n m form, c.valid.few_symbols)
+
   pub form_net_right : IsRight c (form_net c n m)
-  form_net_right =
-      let lengths : IsRight c (form_net c (length ins) (length outs)) =
-      right c (length ins) (length outs) some_in some_out few (form_outs c ins outs form) form.procs in
-      subst (λ k. IsRight c (form_net c k m)) (sym inputs) (subst (λ k. IsRight c (form_net c (length ins) k)) (sym outputs) lengths)
+  form_net_right = right c n m form.some_in form.some_out few_symbols (form_outs c n m form) form.same
 
   pub form_net_fits : AllByRecursion (Fits (form_net c n m).wires) (form_net c n m).nodes
   form_net_fits = form_net_right.fits
-
-  pub form_net_closed : IsClosed (form_net c n m)
-  form_net_closed = form_net_right.closed
 
   pub form_net_basic : IsBasic (form_net c n m)
   form_net_basic = form_net_right.basic
 
   pub form_net_correct : Correct (form_net c n m) (Cmd c)
   form_net_correct = form_net_right.correct
-
-  pub form_net_clean : IsClean (form_net c n m)
-  form_net_clean = form_net_right.clean

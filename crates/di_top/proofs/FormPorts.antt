@@ -1,16 +1,16 @@
 -- The directions of the symbols of a command of the form: n inputs, and then m outputs.
-use Rattle.std.proofs.Common.{◌≡◌, ℕ, zero, suc, ◌+◌, ◌<◌, ◌≤◌, Bool, true, false, List, [], ◌∷◌, ◌++◌, map, length, replicate, refl, ap, ◌∙◌, inl, inr, arith, length-append, append-nil}
+use Rattle.std.proofs.Common.{◌≡◌, ℕ, zero, suc, ◌+◌, ◌<◌, ◌≤◌, Bool, true, false, List, [], ◌∷◌, ◌++◌, map, length, replicate, max, refl, sym, subst, ap, ◌∙◌, inl, inr, arith, append-nil}
 use Rattle.std.specs.List.{range_with_len}
 use Rattle.std.proofs.lemmas.List.{map-append}
 use Rattle.std.proofs.lemmas.Bool.{cases_eq}
 use Rattle.std.proofs.Common.{eq-eqb, ne_eqb}
 use Rattle.cmd_tree.specs.declared.command.Command.{Command}
 use Rattle.cmd_tree.specs.declared.tree.Mark.{Mark}
-use Rattle.cmd_tree.specs.Limits.{marks_of_all}
+use Rattle.cmd_tree.specs.Limits.{marks_of_all, IsNumbered}
 use Rattle.basic_kinds.specs.KindTraces.{taken, given, again, all_then_all}
 use Rattle.net_core.specs.declared.spec.NodeSpec.TheVariants.{Cmd}
 use Rattle.net_core.specs.Specs.{gives_symbol, sides, outs_of}
-use Rattle.di_top.specs.FormText.{IsFormCommand}
+use Rattle.di_top.specs.Forms.{TakesThenGives}
 use Rattle.di_top.proofs.Sides.{range_split}
 
 -- the marks of inputs from a on
@@ -54,10 +54,27 @@ form_sides n m =
     (constant (gives_symbol (form_marks n m)) n m true
     (λ x low high. symbol_later 0 n x (map given (range_with_len n m) ++ []) (omega arith) ∙ symbol_given n m x [] low high))
 
+-- marks numbered one after the other take that many numbers
+past_range : (f : ℕ → Mark) → ((p : ℕ) → (f p).sym.0 ≡ p) → (k n : ℕ) (rest : List Mark) (all : ℕ) → IsNumbered k (map f (range_with_len k n) ++ rest) all → IsNumbered (k + n) rest all
+past_range f same k zero rest all h = let e : k ≡ k + 0 = omega arith in subst (λ (j : ℕ). IsNumbered j rest all) e h
+past_range f same k (suc n) rest all h =
+    let next : max k ((f k).sym.0 + 1) ≡ k + 1 = omega (arith, same k) in
+    let sum : (k + 1) + n ≡ k + suc n = omega arith in
+    subst (λ (j : ℕ). IsNumbered j rest all) sum
+    (past_range f same (k + 1) n rest all (subst (λ (j : ℕ). IsNumbered j (map f (range_with_len (k + 1) n) ++ rest) all) next h.1))
+
+-- a command of the form has a name for each input and output
+pub names_are : (c : Command) (n m : ℕ) → TakesThenGives c.procs n m → n + m ≡ length c.names
+names_are c n m form =
+    let P : List Mark → Type 0 = λ ms. IsNumbered 0 ms (length c.names) in
+    let marks : IsNumbered 0 (form_marks n m) (length c.names) = subst P (ap marks_of_all form.same ∙ marks_are n m) c.valid.numbered in
+    let outs = past_range taken (λ p. refl) 0 n (map given (range_with_len n m) ++ []) (length c.names) marks in
+    past_range given (λ p. refl) n m [] (length c.names) outs
+
 -- the symbols of a command of the form are its inputs and then its outputs
-pub form_outs : (c : Command) (ins outs : List (List ℕ)) → IsFormCommand c ins outs → outs_of (Cmd c) ≡ sides (length ins) (length outs)
-form_outs c ins outs form =
-    ap (λ ps. map (gives_symbol (marks_of_all ps)) (range_with_len 0 (length c.names))) form.procs
-    ∙ ap (λ ms. map (gives_symbol ms) (range_with_len 0 (length c.names))) (marks_are (length ins) (length outs))
-    ∙ ap (λ (k : ℕ). map (gives_symbol (form_marks (length ins) (length outs))) (range_with_len 0 k)) (ap (λ (l : List (List ℕ)). length l) form.names ∙ length-append ins outs)
-    ∙ form_sides (length ins) (length outs)
+pub form_outs : (c : Command) (n m : ℕ) → TakesThenGives c.procs n m → outs_of (Cmd c) ≡ sides n m
+form_outs c n m form =
+    ap (λ ps. map (gives_symbol (marks_of_all ps)) (range_with_len 0 (length c.names))) form.same
+    ∙ ap (λ ms. map (gives_symbol ms) (range_with_len 0 (length c.names))) (marks_are n m)
+    ∙ ap (λ (k : ℕ). map (gives_symbol (form_marks n m)) (range_with_len 0 k)) (sym (names_are c n m form))
+    ∙ form_sides n m

@@ -5,7 +5,7 @@ use Rattle.cmd_tree.specs.declared.command.Command.{Command}
 use Rattle.basic_kinds.specs.declared.kind.Kind.TheVariants.{Wire, Fork, C}
 use Rattle.net_core.specs.Wiring.{Fits, Circuit}
 use Rattle.di_top.specs.declared.form.Form.{Form}
-use Rattle.di_top.specs.FormRead.{IsFormed}
+use Rattle.di_top.specs.Forms.{IsFormed}
 use Rattle.di_top.specs.FormNets.{one_net, join_net, form_net}
 use Rattle.di_top.proofs.FormNet.{form_net_fits}
 
@@ -27,18 +27,8 @@ form_net_both c (suc (suc n)) (suc zero) h k = absurd (omega arith)
 form_net_both c (suc (suc n)) (suc (suc m)) h k = refl
 
 module _ (f : Form) (h : IsFormed f) where
-  -- both sides have a symbol
-  pub some_inputs : 0 < f.inputs
-  some_inputs = omega (arith, h.read.text.some_in, h.read.inputs)
-
-  pub some_outputs : 0 < f.outputs
-  some_outputs = omega (arith, h.read.text.some_out, h.read.outputs)
-
-  pub few_symbols : f.inputs + f.outputs ≤ 1024
-  few_symbols = omega (arith, h.read.text.few, h.read.inputs, h.read.outputs)
-
   all_fit : AllByRecursion (Fits (form_net f.command f.inputs f.outputs).wires) (form_net f.command f.inputs f.outputs).nodes
-  all_fit = form_net_fits f.command h.read.ins h.read.outs f.inputs f.outputs h.read.inputs h.read.outputs h.read.text.some_in h.read.text.some_out h.read.text.few h.read.command
+  all_fit = form_net_fits f.command f.inputs f.outputs h
 
   abbrev FitsAs : Circuit → Type 0
   FitsAs net = AllByRecursion (Fits net.wires) net.nodes
@@ -46,12 +36,12 @@ module _ (f : Form) (h : IsFormed f) where
   pub fork_fits : f.inputs ≡ 1 → f.outputs ≢ 1 → FitsAs (one_net f.command (Fork f.outputs) (f.outputs + 1))
   fork_fits one more =
       let first : form_net f.command f.inputs f.outputs ≡ form_net f.command 1 f.outputs = ap (λ (n : ℕ). form_net f.command n f.outputs) one in
-      subst FitsAs (form_net_fork f.command f.outputs (omega (arith, some_outputs))) (subst FitsAs first all_fit)
+      subst FitsAs (form_net_fork f.command f.outputs (omega (arith, h.some_out))) (subst FitsAs first all_fit)
 
   pub join_fits : f.inputs ≢ 1 → f.outputs ≡ 1 → FitsAs (one_net f.command (C f.inputs) (f.inputs + 1))
   join_fits more one =
       let last : form_net f.command f.inputs f.outputs ≡ form_net f.command f.inputs 1 = ap (λ (m : ℕ). form_net f.command f.inputs m) one in
-      subst FitsAs (form_net_join f.command f.inputs (omega (arith, some_inputs))) (subst FitsAs last all_fit)
+      subst FitsAs (form_net_join f.command f.inputs (omega (arith, h.some_in))) (subst FitsAs last all_fit)
 
   pub both_fit : f.inputs ≢ 1 → f.outputs ≢ 1 → FitsAs (join_net f.command f.inputs f.outputs)
-  both_fit more many = subst FitsAs (form_net_both f.command f.inputs f.outputs (omega (arith, some_inputs)) (omega (arith, some_outputs))) all_fit
+  both_fit more many = subst FitsAs (form_net_both f.command f.inputs f.outputs (omega (arith, h.some_in)) (omega (arith, h.some_out))) all_fit

@@ -3,12 +3,9 @@ pub mod FormPorts
 pub mod OneNet
 pub mod JoinNet
 pub mod FormNet
-pub mod Parsing
-pub mod FormProofs
 pub mod FormShapes
 pub mod Lines
-pub mod FormLengths
 pub mod Compiling
-pub mod Reasons
 pub mod Endings
 pub mod Sourcing
+pub mod Stops

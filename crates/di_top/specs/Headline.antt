@@ -4,7 +4,9 @@ use Rattle.di_top.specs.declared.outcome.Outcome.{Outcome}
 use Rattle.di_top.specs.declared.outcome.Outcome.TheVariants.{Done, NoMemory}
 use Rattle.di_top.specs.Requests.{CompileWide}
 use Rattle.di_top.specs.Calls.{Reading, Change, Unread, Failed}
-use Rattle.di_top.specs.CompileForm.{IsAdmitted, IsCompiled}
+use Rattle.di_top.specs.Forms.{Compiles}
+use Rattle.di_top.specs.CommandFiles.{IsSuited}
+use Rattle.di_top.specs.CompileForm.{IsCompiled}
 use Rattle.di_top.specs.Promised.{Promise}
 
 -- the netlist of the content was appended
@@ -13,9 +15,10 @@ pub record Appended (content before : List ℕ) (out : Change) : Type 0 where
   pub compiled : IsCompiled content text
   pub gained : out.new ≡ Some (before ++ text)
 
--- The file compiles exactly where its content is admitted. Then out gained its netlist, and nothing else ever.
+-- The file compiles exactly where its content is a text of an admitted command that compiles. Then out gained its netlist,
+-- and nothing else ever.
 pub record Headline (content before : List ℕ) (out : Change) (outcome : Outcome) : Type 0 where
-  pub exactly : (outcome ≡ Done) ↔ IsAdmitted content
+  pub exactly : (outcome ≡ Done) ↔ IsSuited Compiles content
   pub done : outcome ≡ Done → Appended content before out
   pub stopped : outcome ≢ Done → out.new ≡ Some before
 

@@ -1,13 +1,15 @@
 -- What a plan prints, and which outcomes end a call before it writes.
 use Rattle.std.specs.Prelude.{ℕ, List, ⊤}
 use Rattle.di_top.specs.declared.outcome.Outcome.{Outcome}
-use Rattle.di_top.specs.declared.outcome.Outcome.TheVariants.{Done, Refused, Usage, ReadFault, WriteFault, NoMemory}
+use Rattle.di_top.specs.declared.outcome.Outcome.TheVariants.{Done, Refused, Usage, ReadFault, WriteFault, NoMemory, Limit}
 use Rattle.di_top.specs.declared.plan.Plan.{Plan}
-use Rattle.di_top.specs.declared.plan.Plan.TheVariants.{Compile}
+use Rattle.di_top.specs.declared.plan.Plan.TheVariants.{Compile, Check}
 use Rattle.di_top.specs.NetText.{net_text}
+use Rattle.di_top.specs.CheckForm.{counts_text}
 
 abbrev pub text_of : Plan → List ℕ
 text_of (Compile netlist) = net_text netlist.net
+text_of (Check counts) = counts_text counts
 
 -- an outcome that ends a call before anything is written
 abbrev pub IsStop : Outcome → Type 0
@@ -17,3 +19,4 @@ IsStop (Refused why) = ⊤
 IsStop Usage = ⊤
 IsStop (ReadFault file) = ⊤
 IsStop NoMemory = ⊤
+IsStop (Limit limit value) = ⊤

@@ -1,24 +1,62 @@
 -- The line that is said of each outcome.
-use Rattle.std.specs.Prelude.{ℕ, List, [], ◌++◌, codes, decimal}
+use Rattle.std.specs.Prelude.{ℕ, List, [], ◌++◌, codes}
+use Rattle.cmd_text.specs.declared.file.Refusal.{Refusal}
+use Rattle.cmd_text.specs.declared.file.Refusal.TheVariants as text
+use Rattle.di_grammar.specs.declared.decide.Broken.{Broken}
+use Rattle.di_top.specs.Decimals.{worded, numbered_line}
 use Rattle.di_top.specs.declared.outcome.Outcome.{Outcome}
-use Rattle.di_top.specs.declared.outcome.Outcome.TheVariants.{Done, Refused, Usage, ReadFault, WriteFault, NoMemory}
+use Rattle.di_top.specs.declared.outcome.Outcome.TheVariants.{Done, Refused, Usage, ReadFault, WriteFault, NoMemory, Limit}
 use Rattle.di_top.specs.declared.outcome.Why.{Why}
-use Rattle.di_top.specs.declared.outcome.Why.TheVariants.{NotThisForm}
+use Rattle.di_top.specs.declared.outcome.Why.TheVariants.{Text, NotThisForm, Grammar}
 
 abbrev pub usage_line : List ℕ
 usage_line = codes "usage: dic compile wide|two F, check F, count wide|two F, run N S [count|peak], drive N SEED STEPS, rules F, big N\n"
 
+-- want of memory is no refusal of a text
+abbrev pub text_line : Refusal → List ℕ
+text_line (text.BadByte at) = numbered_line (codes "refused byte at ") at
+text_line (text.BadToken at) = numbered_line (codes "refused token at ") at
+text_line (text.Unexpected at) = numbered_line (codes "refused text at ") at
+text_line (text.NameTooLong at) = numbered_line (codes "refused name at ") at
+text_line (text.TooDeep at) = numbered_line (codes "refused depth at ") at
+text_line text.NoMemory = codes "no memory\n"
+
+abbrev pub grammar_line : Broken → List ℕ
+grammar_line b =
+    worded (codes "refused G") b.rule ++ worded (codes " process ") b.process ++ worded (codes " place ") b.place
+    ++ worded (codes " against process ") b.other_process ++ numbered_line (codes " place ") b.other
+
 abbrev pub why_line : Why → List ℕ
+why_line (Text refusal) = text_line refusal
 why_line NotThisForm = codes "refused form\n"
+why_line (Grammar b) = grammar_line b
+
+-- what each limit allows; there are no others
+abbrev pub allowed : ℕ → ℕ
+allowed 1 = 1048576
+allowed 2 = 64
+allowed 3 = 1024
+allowed 4 = 256
+allowed 5 = 8192
+allowed 6 = 65536
+allowed 7 = 16777216
+allowed 8 = 262144
+allowed 9 = 255
+allowed k = 0
+
+abbrev pub limit_line : ℕ → ℕ → List ℕ
+limit_line limit value =
+    worded (codes "limit L") limit ++ worded (codes ": found ") value ++ numbered_line (codes ", allowed ") (allowed limit)
 
 -- a call that is done says nothing
 abbrev pub say_line : Outcome → List ℕ
 say_line Done = []
 say_line (Refused why) = why_line why
 say_line Usage = usage_line
-say_line (ReadFault file) = codes "read fault " ++ decimal file ++ codes "\n"
+say_line (ReadFault file) = numbered_line (codes "read fault ") file
 say_line WriteFault = codes "write fault\n"
 say_line NoMemory = codes "no memory\n"
+say_line (Limit limit value) = limit_line limit value
 
 -- the status with which the program ends
 abbrev pub status_of : Outcome → ℕ
@@ -28,3 +66,4 @@ status_of Usage = 2
 status_of (ReadFault file) = 3
 status_of WriteFault = 4
 status_of NoMemory = 5
+status_of (Limit limit value) = 6

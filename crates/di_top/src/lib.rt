@@ -1,14 +1,16 @@
 //! The top call of the program: words in, bytes out.
 #![tactic(auto)]
 
+mod command;
+mod decimal;
 mod form;
 mod laws;
 mod load;
 mod netlist;
 mod network;
 mod outcome;
-mod parse;
 mod plan;
+mod report;
 mod say;
 mod source;
 #[cfg(test)]

@@ -8,10 +8,10 @@ ghost use Rattle.di_top.specs.NetText.{net_text, net_text_of, ports_text, nodes_
 ghost use Rattle.di_top.specs.Netlists.{IsWhole, first_outs, port_line, component_line, number_text, crossing_text, shape_text};
 
 use basic_kinds::{Kind, Shape, ports};
+use crate::decimal::put_decimal;
 use cmd_text::put_command;
 use cmd_tree::{Command, Name};
 use di_io::{PutFault, Sink};
-use itoa::Buffer;
 use net_core::{Net, Node, NodeSpec, directions};
 use std::alloc::{AllocError, Global};
 
@@ -265,15 +265,4 @@ fn put_number<S: Sink>(number: u32, sink: &mut S) -> Result<(), PutFault>
 {
     sink.put(b" ")?;
     put_decimal(number as u64, sink)
-}
-
-/// Puts a number in decimal.
-pub fn put_decimal<S: Sink>(number: u64, sink: &mut S) -> Result<(), PutFault>
-    ensures later { S.faults sink.old ≤ S.faults sink.new }
-    ensures ok { OnOk result (Gains (S.written sink.old) (S.written sink.new) (decimal number)) }
-    ensures failed { OnErr result (Rose (S.faults sink.old) (S.faults sink.new)) }
-    ensures front { OnErr result (GainsFront (S.written sink.old) (S.written sink.new) (decimal number)) }
-{
-    let mut buffer = Buffer::new();
-    sink.put(buffer.format(number).as_bytes())
 }

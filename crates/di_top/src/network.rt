@@ -3,7 +3,7 @@ ghost use Rattle.std.specs.List.{AllByRecursion, range_with_len};
 ghost use Rattle.net_core.specs.Wiring.{Fits};
 ghost use Rattle.di_top.specs.FormNets as shape;
 ghost use Rattle.di_top.specs.FormNets.{form_net};
-ghost use Rattle.di_top.specs.FormRead.{IsFormed};
+ghost use Rattle.di_top.specs.Forms.{IsFormed};
 
 use crate::form::Form;
 use basic_kinds::Kind;

@@ -1,6 +1,9 @@
 ghost use Rattle.std.specs.Prelude.{◌≡◌};
 ghost use Rattle.di_top.specs.Say.{status_of};
 
+use crate::source::SourceRefusal;
+use cmd_text::Refusal;
+use di_grammar::Broken;
 use std::alloc::AllocError;
 
 /// How a call of the program ended.
@@ -18,13 +21,19 @@ pub enum Outcome {
     WriteFault,
     /// Memory was refused before anything was written.
     NoMemory,
+    /// The limit of this number is passed. `value` is what was found.
+    Limit { limit: u8, value: u64 },
 }
 
 /// Why an input is refused.
 #[derive(Debug, Clone, Copy, PartialEq, Eq)]
 pub enum Why {
-    /// The command file is not of the form that can be compiled.
+    /// The file is no text of the grammar.
+    Text(Refusal),
+    /// The file has definitions, or its command is not of the form that can be compiled.
     NotThisForm,
+    /// The command is not admitted.
+    Grammar(Broken),
 }
 
 impl Outcome {
@@ -39,6 +48,7 @@ impl Outcome {
             Outcome::ReadFault { .. } => 3,
             Outcome::WriteFault => 4,
             Outcome::NoMemory => 5,
+            Outcome::Limit { .. } => 6,
         }
     }
 }
@@ -50,5 +60,45 @@ impl From<AllocError> for Outcome {
 
     fn from(_error: AllocError) -> Outcome {
         Outcome::NoMemory
+    }
+}
+
+impl From<Refusal> for Outcome {
+    ghost use Rattle.std.specs.Prelude.{◌≡◌};
+    ghost use Rattle.di_top.specs.CommandFiles.{told_of_text};
+
+    ghost from_gives = { λ refusal outcome. outcome ≡ told_of_text refusal };
+
+    fn from(refusal: Refusal) -> Outcome {
+        match refusal {
+            Refusal::NoMemory => Outcome::NoMemory,
+            _ => Outcome::Refused(Why::Text(refusal)),
+        }
+    }
+}
+
+impl From<SourceRefusal> for Outcome {
+    ghost use Rattle.std.specs.Prelude.{◌≡◌};
+    ghost use Rattle.di_top.specs.CommandFiles.{told_of_source};
+
+    ghost from_gives = { λ refusal outcome. outcome ≡ told_of_source refusal };
+
+    fn from(refusal: SourceRefusal) -> Outcome {
+        match refusal {
+            SourceRefusal::NotThisForm => Outcome::Refused(Why::NotThisForm),
+            SourceRefusal::TooManySymbols { count } => Outcome::Limit {
+                limit: 3,
+                value: count,
+            },
+            SourceRefusal::TooManyProcs { count } => Outcome::Limit {
+                limit: 4,
+                value: count,
+            },
+            SourceRefusal::TooManyPlaces { count } => Outcome::Limit {
+                limit: 5,
+                value: count,
+            },
+            SourceRefusal::NoMemory => Outcome::NoMemory,
+        }
     }
 }

@@ -1,31 +1,30 @@
 ghost use Rattle.std.specs.Prelude.{◌≡◌, ◌≤◌, ◌⊎◌, ℕ, List, IfOk, IfErr, OnOk, OnErr, Some};
 ghost use Rattle.di_io.specs.Faults.{Rose};
 ghost use Rattle.di_io.specs.Written.{Gains, GainsFront};
-ghost use Rattle.di_top.specs.Requests.{CompileWide as AskedWide};
+ghost use Rattle.di_top.specs.Requests.{CompileWide as AskedWide, Check as AskedCheck};
 ghost use Rattle.di_top.specs.Asked.{meant};
 ghost use Rattle.di_top.specs.Calls.{reading};
-ghost use Rattle.di_top.specs.CompileForm.{Compiled};
+ghost use Rattle.di_top.specs.CompileForm.{Compiled, CompiledTo};
 ghost use Rattle.di_top.specs.Outcomes.{Gives, Prints};
-ghost use Rattle.di_top.specs.FormRead.{IsRead, IsFormed};
-ghost use Rattle.di_top.specs.FormText.{IsFormText};
+ghost use Rattle.di_top.specs.Forms.{Compiles, IsFormed};
 ghost use Rattle.di_top.specs.Plans.{text_of, IsStop};
 
-use crate::form::{Form, FormRefusal, read_form};
-use crate::load::load_file;
+use crate::command::load_command;
+use crate::form::{Form, read_form};
 use crate::netlist::{Netlist, put_netlist};
 use crate::network::build_net;
 use crate::outcome::{Outcome, Why};
+use crate::report::{Counts, put_counts};
 use crate::words::Task;
+use cmd_tree::Command;
 use di_io::{PutFault, Shelf, Sink};
 use std::alloc::{AllocError, Global};
-
-/// The most bytes of a command file that are loaded: one more than it may have.
-const COMMAND_CAP: usize = 1_048_577;
 
 /// What is to be printed. It owns all memory that printing needs.
 #[derive(Drop)]
 pub enum Plan {
     Compile(Netlist),
+    Check(Counts),
 }
 
 /// Does all that a task asks for but its printing. On a failure that is no want of memory, the
@@ -40,6 +39,7 @@ pub fn decide<F: Shelf>(alloc: Global, task: Task, shelf: &mut F) -> Result<Plan
 {
     match task {
         Task::CompileWide { file } => plan_compile(alloc, file, shelf),
+        Task::Check { file } => plan_check(alloc, file, shelf),
     }
 }
 
@@ -52,6 +52,7 @@ pub fn put_plan<S: Sink>(plan: &Plan, sink: &mut S) -> Result<(), PutFault>
 {
     match plan {
         Plan::Compile(netlist) => put_netlist(netlist, sink),
+        Plan::Check(counts) => put_counts(*counts, sink),
     }
 }
 
@@ -63,21 +64,32 @@ fn plan_compile<F: Shelf>(alloc: Global, file: &str, shelf: &mut F) -> Result<Pl
     ensures kept { (other : List ℕ) → F.content shelf.new other ≡ F.content shelf.old other }
     ensures later { (other : List ℕ) → F.faults shelf.old other ≤ F.faults shelf.new other }
 {
-    let bytes = load_file(alloc, file, 1, COMMAND_CAP, shelf)?;
-    let form = read_command(alloc, &bytes)?;
-    let netlist = compile_form(alloc, form)?;
+    let command = load_command(alloc, file, shelf)?;
+    let netlist = compile(alloc, command)?;
     Ok(Plan::Compile(netlist))
 }
 
-fn read_command(alloc: Global, bytes: &[u8]) -> Result<Form, Outcome>
-    ensures ok { IfOk result (IsRead bytes.now) }
-    ensures stop { IfErr result (λ stop. (stop ≡ Outcome.NoMemory)
-        ⊎ ((stop ≡ Outcome.Refused Why.NotThisForm) × ((ins outs : List (List ℕ)) → IsFormText bytes.now ins outs → ⊥))) }
+fn plan_check<F: Shelf>(alloc: Global, file: &str, shelf: &mut F) -> Result<Plan, Outcome>
+    ensures ok { IfOk result (λ plan. Gives (Some (AskedCheck file.now)) (reading F.content F.faults shelf.old shelf.new) Outcome.Done
+        × Prints (Some (AskedCheck file.now)) (reading F.content F.faults shelf.old shelf.new) (text_of plan)) }
+    ensures stop { IfErr result (λ stop. IsStop stop
+        × Gives (Some (AskedCheck file.now)) (reading F.content F.faults shelf.old shelf.new) stop) }
+    ensures kept { (other : List ℕ) → F.content shelf.new other ≡ F.content shelf.old other }
+    ensures later { (other : List ℕ) → F.faults shelf.old other ≤ F.faults shelf.new other }
 {
-    match read_form(alloc, bytes) {
-        Ok(form) => Ok(form),
-        Err(FormRefusal::NotThisForm) => Err(Outcome::Refused(Why::NotThisForm)),
-        Err(FormRefusal::NoMemory) => Err(Outcome::NoMemory),
+    let command = load_command(alloc, file, shelf)?;
+    Ok(Plan::Check(Counts::of(&command)))
+}
+
+/// The netlist of a command. It answers `NotThisForm` exactly where the command has another form.
+fn compile(alloc: Global, command: Command) -> Result<Netlist, Outcome>
+    ensures ok { IfOk result (λ netlist. CompiledTo command netlist.net) }
+    ensures stop { IfErr result (λ stop. (stop ≡ Outcome.NoMemory)
+        ⊎ ((Compiles command.procs → ⊥) × (stop ≡ Outcome.Refused Why.NotThisForm))) }
+{
+    match read_form(command) {
+        Some(form) => Ok(compile_form(alloc, form)?),
+        None => Err(Outcome::Refused(Why::NotThisForm)),
     }
 }
 

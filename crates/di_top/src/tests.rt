@@ -77,7 +77,21 @@ fn answers(rt: HostRuntime) -> Result<(), Fail> {
         ),
         (
             "compile wide F",
+            Some("# one in, one out\nmain := pref*[a?;b!]."),
+            "dinet 1\nspec pref*[a?;b!]\nport a? 0\nport b! 1\nWIRE 0 > 1\nend\n",
+            "",
+            0,
+        ),
+        (
+            "compile wide F",
             Some("main := pref*[a?;a!]."),
+            "",
+            "refused G7 process 1 place 2 against process 1 place 1\n",
+            1,
+        ),
+        (
+            "compile wide F",
+            Some("main := pref*[a?;b!;a?;c!]."),
             "",
             "refused form\n",
             1,
@@ -149,5 +163,190 @@ fn compiles_many_symbols(rt: HostRuntime) -> Result<(), Fail> {
     )?;
     assert_eq!(rt; ran.outcome, Outcome::Done);
     assert!(rt; ran.say.bytes().is_empty());
+    Ok(())
+}
+
+// What `check F` prints and says of a file with this one command, and the status.
+#[test]
+fn checks_commands(rt: HostRuntime) -> Result<(), Fail> {
+    let alloc = rt.alloc();
+    let rows = [
+        (
+            "main := pref*[a?;b!;a?;c!].",
+            "admitted\nprocesses 1\nsymbols 3\nplaces 4\n",
+            "",
+            0,
+        ),
+        (
+            "main := pref*[a?;p!;c?;e!]||pref*[b?;q!;d?;f!]||pref*[p!;c?|q!;d?].",
+            "admitted\nprocesses 3\nsymbols 8\nplaces 12\n",
+            "",
+            0,
+        ),
+        (
+            "main := pref*[(a?||a?);b!].",
+            "",
+            "refused G1 process 1 place 2 against process 1 place 1\n",
+            1,
+        ),
+        (
+            "main := pref*[a?;b!;(a?||a?);c!].",
+            "",
+            "refused G1 process 1 place 4 against process 1 place 3\n",
+            1,
+        ),
+        (
+            "main := pref*[a?;b?;c!].",
+            "",
+            "refused G2 process 1 place 2 against process 1 place 1\n",
+            1,
+        ),
+        (
+            "main := pref*[a?;b!;c?].",
+            "",
+            "refused G3 process 1 place 3 against process 1 place 1\n",
+            1,
+        ),
+        (
+            "main := pref*[a?;(b!;c?;d!|e!)].",
+            "",
+            "refused G4 process 1 place 2 against process 1 place 2\n",
+            1,
+        ),
+        (
+            "main := pref*[a?;b!|a?;c!].",
+            "",
+            "refused G5 process 1 place 3 against process 1 place 1\n",
+            1,
+        ),
+        (
+            "main := pref*[a?;b!;(a?||c?);d!].",
+            "",
+            "refused G6 process 1 place 3 against process 1 place 1\n",
+            1,
+        ),
+        (
+            "main := pref*[a?;a!].",
+            "",
+            "refused G7 process 1 place 2 against process 1 place 1\n",
+            1,
+        ),
+        (
+            "main := pref*[a?;b!]||pref*[b?;c!].",
+            "",
+            "refused G7 process 2 place 1 against process 1 place 2\n",
+            1,
+        ),
+        (
+            "main := pref*[n?;(p!|p!)].",
+            "",
+            "refused G8 process 1 place 3 against process 1 place 2\n",
+            1,
+        ),
+        (
+            "main := pref*[n?;(p!|q!)].",
+            "",
+            "refused G9 process 1 place 2 against process 1 place 2\n",
+            1,
+        ),
+    ];
+    for (content, out, say, status) in rows {
+        let ran = call(alloc, "check F", Some(content), Vec::new(alloc))?;
+        assert!(rt; ran.out.bytes() == out.as_bytes(), "{content}");
+        assert!(rt; ran.say.bytes() == say.as_bytes(), "{content}");
+        assert_eq!(rt; ran.outcome.status(), status);
+    }
+    Ok(())
+}
+
+// The same of files that are no text of the grammar, or have definitions.
+#[test]
+fn refuses_texts(rt: HostRuntime) -> Result<(), Fail> {
+    let alloc = rt.alloc();
+    let rows = [
+        (
+            "",
+            "",
+            "refused text at 0\n",
+            1,
+        ),
+        (
+            "main := pref*[a?;",
+            "",
+            "refused text at 17\n",
+            1,
+        ),
+        (
+            "main := v.",
+            "",
+            "refused form\n",
+            1,
+        ),
+        (
+            "let v := pref*[a?;b!]. main := pref*[a?;b!].",
+            "",
+            "refused form\n",
+            1,
+        ),
+        (
+            "main := pref*[a?;b%!].",
+            "",
+            "refused byte at 18\n",
+            1,
+        ),
+        (
+            "main := pref*[a?;_!].",
+            "",
+            "refused token at 17\n",
+            1,
+        ),
+        (
+            "main := pref*[a?;abcdefghijklmnopqrstuvwxyzabcdefg!].",
+            "",
+            "refused name at 17\n",
+            1,
+        ),
+        (
+            "main := pref*[(a?)].",
+            "",
+            "refused text at 17\n",
+            1,
+        ),
+    ];
+    for (content, out, say, status) in rows {
+        let ran = call(alloc, "check F", Some(content), Vec::new(alloc))?;
+        assert!(rt; ran.out.bytes() == out.as_bytes(), "{content}");
+        assert!(rt; ran.say.bytes() == say.as_bytes(), "{content}");
+        assert_eq!(rt; ran.outcome.status(), status);
+    }
+    Ok(())
+}
+
+// A text, a piece so many times, and an end.
+fn repeated(alloc: Global, start: &str, piece: &str, times: u32, end: &str) -> Result<String, Fail> {
+    let mut text = String::from_str(alloc, start)?;
+    for _ in 0..times {
+        text.push_str(piece)?;
+    }
+    text.push_str(end)?;
+    Ok(text)
+}
+
+// Files past a limit: too many brackets, bytes and symbol places.
+#[test]
+fn refuses_what_is_past_a_limit(rt: HostRuntime) -> Result<(), Fail> {
+    let alloc = rt.alloc();
+    let rows = [
+        ("main := pref*[", "(", 65, "", "refused depth at 78\n", 1),
+        ("", "# ..............", 65_536, "#", "limit L1: found 1048577, allowed 1048576\n", 6),
+        ("main := pref*[", "a?;b!;", 4096, "a?].", "limit L5: found 8193, allowed 8192\n", 6),
+    ];
+    for (start, piece, times, end, say, status) in rows {
+        let text = repeated(alloc, start, piece, times, end)?;
+        let ran = call(alloc, "check F", Some(text.as_str()), Vec::new(alloc))?;
+        assert!(rt; ran.out.bytes().is_empty());
+        assert!(rt; ran.say.bytes() == say.as_bytes(), "{piece}");
+        assert_eq!(rt; ran.outcome.status(), status);
+    }
     Ok(())
 }

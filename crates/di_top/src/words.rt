@@ -6,6 +6,8 @@ ghost use Rattle.di_top.specs.Asked.{meant};
 pub enum Task<'a> {
     /// The netlist of the command in this file.
     CompileWide { file: &'a str },
+    /// Whether the command in this file is admitted.
+    Check { file: &'a str },
 }
 
 /// What the words ask for, or None where they are of no form.
@@ -18,6 +20,9 @@ pub fn read_words(words: &[String]) -> Option<Task<'_>>
                 file: file.as_str(),
             })
         }
+        [verb, file] if verb.as_str() == "check" => Some(Task::Check {
+            file: file.as_str(),
+        }),
         _ => None,
     }
 }

@@ -1,9 +1,10 @@
 use Rattle.std.specs.Prelude.{codes, decimal}
+use Rattle.di_top.specs.Decimals.{worded, numbered_line}
 use Rattle.di_io.proofs.Puts.{front_more, front_then, gains_then, ok_then, err_then, on_err}
-use Rattle.di_top.proofs.say.say_read_fault.Goals as goal
+use Rattle.di_top.proofs.decimal.put_numbered.Goals as goal
 
 pub returns-in_err-put-clause-front : goal.returns-in_err-put-clause-front
-returns-in_err-put-clause-front g c = on_err _ _ (front_more _ _ _ (codes "\n") (front_more _ _ _ (decimal c.args.file) c.in_err-put.ensures.front))
+returns-in_err-put-clause-front g c = on_err _ _ (front_more _ _ _ (codes "\n") (front_more _ _ _ (decimal c.args.number) c.in_err-put.ensures.front))
 
 pub returns-in_err-put_decimal-clause-front : goal.returns-in_err-put_decimal-clause-front
 returns-in_err-put_decimal-clause-front g c = on_err _ _ (front_more _ _ _ (codes "\n") (front_then _ _ _ _ _ c.in_ok-put.ensures.ok c.in_err-put_decimal.ensures.front))

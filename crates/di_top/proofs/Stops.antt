@@ -1,0 +1,99 @@
+-- What stops a command file, and what it gives, exclude one another; bytes that were loaded of an admitted text are all.
+use Rattle.std.proofs.Common.{◌≡◌, ◌≢◌, ℕ, ◌<◌, ◌≤◌, List, Option, Some, None, refl, sym, ap, ◌∙◌, subst, inl, inr, arith, take, length, min}
+use Rattle.std.specs.Prelude.{◌⊎◌, option_map}
+use Rattle.std.specs.Option.{IfSome}
+use Rattle.std.proofs.lemmas.List.{take_all, length-take}
+use Rattle.cmd_tree.specs.declared.tree.Proc.{Proc}
+use Rattle.cmd_text.specs.declared.file.Sentence.{Sentence}
+use Rattle.cmd_text.specs.declared.file.Refusal.{Refusal}
+use Rattle.cmd_text.specs.declared.file.Refusal.TheVariants as text
+use Rattle.cmd_text.specs.Fault as faults
+use Rattle.cmd_text.specs.Source.{IsTextOfBytes, IsShallowText, IsFaultOfBytes}
+use Rattle.cmd_text.specs.ScanView.{fault_of}
+use Rattle.di_grammar.specs.declared.decide.Broken.{Broken}
+use Rattle.di_grammar.specs.Rules.{broken, Admitted}
+use Rattle.di_top.specs.declared.outcome.Outcome.{Outcome}
+use Rattle.di_top.specs.declared.outcome.Outcome.TheVariants.{Done, Refused, NoMemory, Limit}
+use Rattle.di_top.specs.declared.outcome.Why.TheVariants as why
+use Rattle.di_top.specs.declared.source.SourceRefusal.{SourceRefusal}
+use Rattle.di_top.specs.declared.source.SourceRefusal.TheVariants as source
+use Rattle.di_top.specs.Sources as spec
+use Rattle.di_top.specs.Sources.{Sourced, Main, Source, IsFileOf, sourced, Tells}
+use Rattle.di_top.specs.Calls.{Reading, Loaded}
+use Rattle.di_top.specs.CommandFiles.{most_bytes, command_cap, refused_as, told_of_text, told_of_source, StopsWith, TooLong, Faulty, Refuses, IsAdmittedText}
+use Rattle.di_top.specs.Plans.{IsStop}
+use Rattle.di_top.proofs.Sourcing.{one_source, no_source}
+
+-- ---- what stops a call
+pub text_stops : (bytes : List ℕ) (refusal : Refusal) → length bytes ≤ most_bytes → IfSome (fault_of refusal) (λ f. IsFaultOfBytes bytes f)
+    → (told_of_text refusal ≡ NoMemory) ⊎ StopsWith bytes (told_of_text refusal)
+text_stops bytes (text.BadByte at) few h = inr (Faulty (text.BadByte at) (faults.BadByte at) few refl h refl)
+text_stops bytes (text.BadToken at) few h = inr (Faulty (text.BadToken at) (faults.BadToken at) few refl h refl)
+text_stops bytes (text.Unexpected at) few h = inr (Faulty (text.Unexpected at) (faults.Unexpected at) few refl h refl)
+text_stops bytes (text.NameTooLong at) few h = inr (Faulty (text.NameTooLong at) (faults.NameTooLong at) few refl h refl)
+text_stops bytes (text.TooDeep at) few h = inr (Faulty (text.TooDeep at) (faults.TooDeep at) few refl h refl)
+text_stops bytes text.NoMemory few h = inl refl
+
+source_is : (bytes : List ℕ) (names : List (List ℕ)) (ss : List Sentence) (is : Sourced) → IsFileOf bytes names ss → sourced names ss ≡ is → Source bytes is
+source_is bytes names ss is f e = record { names = names; sentences = ss; read = f; same = e }
+
+pub source_stops : (bytes : List ℕ) (names : List (List ℕ)) (ss : List Sentence) (refusal : SourceRefusal) → IsFileOf bytes names ss → Tells (sourced names ss) refusal
+    → (told_of_source refusal ≡ NoMemory) ⊎ StopsWith bytes (told_of_source refusal)
+source_stops bytes names ss source.NotThisForm f h = inr (Refuses spec.NotThisForm (source_is bytes names ss spec.NotThisForm f h) refl)
+source_stops bytes names ss (source.TooManySymbols n) f h = inr (Refuses (spec.TooManySymbols n) (source_is bytes names ss (spec.TooManySymbols n) f h) refl)
+source_stops bytes names ss (source.TooManyProcs n) f h = inr (Refuses (spec.TooManyProcs n) (source_is bytes names ss (spec.TooManyProcs n) f h) refl)
+source_stops bytes names ss (source.TooManyPlaces n) f h = inr (Refuses (spec.TooManyPlaces n) (source_is bytes names ss (spec.TooManyPlaces n) f h) refl)
+source_stops bytes names ss source.NoMemory f h = inl refl
+
+pub grammar_stops : (bytes : List ℕ) (names : List (List ℕ)) (ss : List Sentence) (procs : List Proc) (b : Broken) → IsFileOf bytes names ss
+    → sourced names ss ≡ Main names procs → broken procs ≡ Some b → StopsWith bytes (Refused (why.Grammar b))
+grammar_stops bytes names ss procs b f e h =
+    Refuses (Main names procs) (source_is bytes names ss (Main names procs) f e) (ap (option_map (λ c. Refused (why.Grammar c))) h)
+
+pub admitted_text : (bytes : List ℕ) (names all : List (List ℕ)) (ss : List Sentence) (procs : List Proc) → IsFileOf bytes all ss
+    → sourced all ss ≡ Main names procs → Admitted procs → IsAdmittedText bytes names procs
+admitted_text bytes names all ss procs f e a = record { source = source_is bytes all ss (Main names procs) f e; admitted = a }
+
+-- ---- an admitted text stops no call
+pub admitted_whole : (procs : List Proc) → Admitted procs → broken procs ≡ None
+admitted_whole procs a = a
+
+pub not_stopped : (bytes : List ℕ) (names : List (List ℕ)) (procs : List Proc) (outcome : Outcome) → IsAdmittedText bytes names procs → StopsWith bytes outcome → ⊥
+not_stopped bytes names procs outcome a (TooLong long e) = omega (arith, a.source.read.few, long)
+not_stopped bytes names procs outcome a (Faulty refusal fault few told is e) = no_source bytes fault (Main names procs) is a.source
+not_stopped bytes names procs outcome a (Refuses is s e) =
+    let same : is ≡ Main names procs = one_source bytes is (Main names procs) s a.source in
+    let none : refused_as (Main names procs) ≡ None = ap (option_map (λ b. Refused (why.Grammar b))) (admitted_whole procs a.admitted) in
+    let bad : None ≡ Some outcome = sym none ∙ ap refused_as (sym same) ∙ e in
+    absurd (cc)
+
+-- two admitted texts of the same bytes are of the same command
+pub one_text : (bytes : List ℕ) (names others : List (List ℕ)) (procs qrocs : List Proc) → IsAdmittedText bytes names procs → IsAdmittedText bytes others qrocs
+    → procs ≡ qrocs
+one_text bytes names others procs qrocs a b =
+    let same : Main names procs ≡ Main others qrocs = one_source bytes (Main names procs) (Main others qrocs) a.source b.source in cc
+
+-- bytes that were loaded and are within the limit are the whole content
+pub loaded_whole : (r : Reading) (file bytes : List ℕ) → Loaded r file command_cap bytes → length bytes ≤ most_bytes
+    → (all : List ℕ) → r.content file ≡ Some all → bytes ≡ all
+loaded_whole r file bytes l few all told =
+    let cut : bytes ≡ take command_cap all = l.told all told in
+    let short : length all ≤ most_bytes = omega (arith, ap length cut, length-take command_cap all) in
+    cut ∙ take_all command_cap all (omega arith)
+
+-- what stops a call is no end of work
+pub stops_are_stops : (bytes : List ℕ) (outcome : Outcome) → StopsWith bytes outcome → IsStop outcome
+stops_are_stops bytes outcome (TooLong long e) = let P : Outcome → Type 0 = IsStop in subst P (sym e) tt
+stops_are_stops bytes outcome (Faulty refusal fault few told is e) = let P : Outcome → Type 0 = IsStop in subst P (sym e) tt
+stops_are_stops bytes outcome (Refuses is s e) = refuses_stop is outcome e
+  where
+    some_stop : (o : Option Broken) (outcome : Outcome) → option_map (λ b. Refused (why.Grammar b)) o ≡ Some outcome → IsStop outcome
+    some_stop None outcome e = absurd (cc)
+    some_stop (Some b) outcome e = let same : Refused (why.Grammar b) ≡ outcome = cc in let P : Outcome → Type 0 = IsStop in subst P same tt
+
+    refuses_stop : (is : Sourced) (outcome : Outcome) → refused_as is ≡ Some outcome → IsStop outcome
+    refuses_stop spec.NotThisForm outcome e = let same : Refused why.NotThisForm ≡ outcome = cc in let P : Outcome → Type 0 = IsStop in subst P same tt
+    refuses_stop (spec.TooManySymbols n) outcome e = let same : Limit 3 n ≡ outcome = cc in let P : Outcome → Type 0 = IsStop in subst P same tt
+    refuses_stop (spec.TooManyProcs n) outcome e = let same : Limit 4 n ≡ outcome = cc in let P : Outcome → Type 0 = IsStop in subst P same tt
+    refuses_stop (spec.TooManyPlaces n) outcome e = let same : Limit 5 n ≡ outcome = cc in let P : Outcome → Type 0 = IsStop in subst P same tt
+    refuses_stop (Main names procs) outcome e = some_stop (broken procs) outcome e

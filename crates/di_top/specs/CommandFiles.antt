@@ -1,0 +1,90 @@
+-- What a command file is to each form of words that takes the command of `main`: it stops the call, or gives an
+-- admitted command.
+use Rattle.std.specs.Prelude.{◌≡◌, ℕ, ◌≤◌, ◌<◌, List, Option, Some, None, option_map, length}
+use Rattle.cmd_tree.specs.declared.tree.Proc.{Proc}
+use Rattle.cmd_text.specs.declared.file.Refusal.{Refusal}
+use Rattle.cmd_text.specs.declared.file.Refusal.TheVariants as text
+use Rattle.cmd_text.specs.Fault as faults
+use Rattle.cmd_text.specs.Source.{IsFaultOfBytes}
+use Rattle.cmd_text.specs.ScanView.{fault_of}
+use Rattle.di_grammar.specs.Rules.{broken, Admitted}
+use Rattle.di_top.specs.declared.outcome.Outcome.{Outcome}
+use Rattle.di_top.specs.declared.outcome.Outcome.TheVariants.{Refused, ReadFault, NoMemory, Limit}
+use Rattle.di_top.specs.declared.outcome.Why.TheVariants as why
+use Rattle.di_top.specs.Sources.{Sourced, NotThisForm, TooManySymbols, TooManyProcs, TooManyPlaces, Main, Source}
+use Rattle.di_top.specs.declared.source.SourceRefusal.{SourceRefusal}
+use Rattle.di_top.specs.declared.source.SourceRefusal.TheVariants as source
+use Rattle.di_top.specs.Calls.{Reading, Loaded, Unread}
+
+-- the most bytes that a command file may have
+abbrev pub most_bytes : ℕ
+most_bytes = 1048576
+
+-- a command file is loaded with one byte more, so that a longer one is seen to be longer
+abbrev pub command_cap : ℕ
+command_cap = 1048577
+
+-- what is answered of a file that is this, where it gives no admitted command
+abbrev pub refused_as : Sourced → Option Outcome
+refused_as NotThisForm = Some (Refused why.NotThisForm)
+refused_as (TooManySymbols n) = Some (Limit 3 n)
+refused_as (TooManyProcs n) = Some (Limit 4 n)
+refused_as (TooManyPlaces n) = Some (Limit 5 n)
+refused_as (Main names procs) = option_map (λ b. Refused (why.Grammar b)) (broken procs)
+
+-- the outcome of each refusal
+abbrev pub told_of_text : Refusal → Outcome
+told_of_text (text.BadByte at) = Refused (why.Text (text.BadByte at))
+told_of_text (text.BadToken at) = Refused (why.Text (text.BadToken at))
+told_of_text (text.Unexpected at) = Refused (why.Text (text.Unexpected at))
+told_of_text (text.NameTooLong at) = Refused (why.Text (text.NameTooLong at))
+told_of_text (text.TooDeep at) = Refused (why.Text (text.TooDeep at))
+told_of_text text.NoMemory = NoMemory
+
+abbrev pub told_of_source : SourceRefusal → Outcome
+told_of_source source.NotThisForm = Refused why.NotThisForm
+told_of_source (source.TooManySymbols n) = Limit 3 n
+told_of_source (source.TooManyProcs n) = Limit 4 n
+told_of_source (source.TooManyPlaces n) = Limit 5 n
+told_of_source source.NoMemory = NoMemory
+
+-- What these bytes stop a call with: they are too many, they have a fault, or their file is refused.
+pub data StopsWith (bytes : List ℕ) (outcome : Outcome) : Type 0 where
+  TooLong : most_bytes < length bytes → outcome ≡ Limit 1 (length bytes) → StopsWith bytes outcome
+  Faulty : (refusal : Refusal) (fault : faults.Fault) → length bytes ≤ most_bytes → fault_of refusal ≡ Some fault → IsFaultOfBytes bytes fault
+      → outcome ≡ Refused (why.Text refusal) → StopsWith bytes outcome
+  Refuses : (is : Sourced) → Source bytes is → refused_as is ≡ Some outcome → StopsWith bytes outcome
+
+-- the bytes are, within the limits, a text of this one command, and it is admitted
+pub record IsAdmittedText (bytes : List ℕ) (names : List (List ℕ)) (procs : List Proc) : Type 0 where
+  pub source : Source bytes (Main names procs)
+  pub admitted : Admitted procs
+
+-- the file stops a call: it was not read, or its bytes stop it
+pub data FileStops (r : Reading) (file : List ℕ) (outcome : Outcome) : Type 0 where
+  Fault : Unread r file → outcome ≡ ReadFault 1 → FileStops r file outcome
+  Bytes : (bytes : List ℕ) → Loaded r file command_cap bytes → StopsWith bytes outcome → FileStops r file outcome
+
+-- the bytes that were loaded of the file are a text of this admitted command
+pub record FileHolds (r : Reading) (file : List ℕ) (names : List (List ℕ)) (procs : List Proc) : Type 0 where
+  pub bytes : List ℕ
+  pub loaded : Loaded r file command_cap bytes
+  pub admitted : IsAdmittedText bytes names procs
+
+-- What is answered of a file, want of memory and writing apart. `Used` says what is answered of an admitted command.
+pub data FileGives (Used : List Proc → Outcome → Type 0) (r : Reading) (file : List ℕ) (outcome : Outcome) : Type 0 where
+  Stopped : FileStops r file outcome → FileGives Used r file outcome
+  Taken : (names : List (List ℕ)) (procs : List Proc) → FileHolds r file names procs → Used procs outcome → FileGives Used r file outcome
+
+-- bytes of an admitted command that suits the form of words
+pub record IsSuited (Suits : List Proc → Type 0) (bytes : List ℕ) : Type 0 where
+  pub names : List (List ℕ)
+  pub procs : List Proc
+  pub text : IsAdmittedText bytes names procs
+  pub suits : Suits procs
+
+-- the file's content is told, and is such bytes
+pub record FileAdmits (Suits : List Proc → Type 0) (r : Reading) (file : List ℕ) : Type 0 where
+  pub content : List ℕ
+  pub told : r.content file ≡ Some content
+  pub suited : IsSuited Suits content
