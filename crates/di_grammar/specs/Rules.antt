@@ -8,7 +8,7 @@ use Rattle.cmd_tree.specs.declared.tree.Proc.{Proc}
 use Rattle.cmd_tree.specs.Tree.{TItem, TSeq, TSeqs, TBurst, TAlt, Stop, Or, Done, Then, places_of, places_in, marks_of}
 use Rattle.cmd_tree.specs.Limits.{of_part, marks_of_proc}
 use Rattle.di_grammar.specs.declared.fault.Fault.{Fault}
-use Rattle.di_grammar.specs.declared.decide.Broken.{Broken}
+use Rattle.di_grammar.specs.declared.check.Broken.{Broken}
 use Rattle.di_grammar.specs.declared.ends.Dirs.{Dirs}
 use Rattle.di_grammar.specs.Ends.{is_output, same_dir, of_dir, dirs_of}
 use Rattle.di_grammar.specs.Bursts.{Burst, dir_of, bursts_of, firsts_of, firsts_in, firsts_among, lasts_of, lasts_in, lasts_among}

@@ -3,7 +3,7 @@
 #![tactic(auto)]
 
 mod alternate;
-mod decide;
+mod check;
 mod choices;
 mod ends;
 mod fault;
@@ -12,7 +12,7 @@ mod places;
 mod uneven;
 
 pub use alternate::{second_rule, third_rule};
-pub use decide::{Broken, check};
+pub use check::Broken;
 pub use fault::Fault;
 pub use uneven::first_rule;
 
