@@ -1,4 +1,4 @@
 pub mod Lesser
 pub mod Steps
 pub mod Sides
-pub mod Forms
+pub mod GrantSteps
