@@ -9,11 +9,14 @@ mod ends;
 mod fault;
 mod grant;
 mod places;
+mod spots;
+mod turned;
 mod uneven;
 
 pub use alternate::{second_rule, third_rule};
 pub use check::Broken;
 pub use fault::Fault;
+pub use turned::seventh_rule;
 pub use uneven::first_rule;
 
 #[cfg(test)]
