@@ -4,3 +4,4 @@ pub mod Sides
 pub mod GrantSteps
 pub mod SpotSteps
 pub mod TurnedSteps
+pub mod GrantingSteps

@@ -8,6 +8,7 @@ mod choices;
 mod ends;
 mod fault;
 mod grant;
+mod granting;
 mod places;
 mod spots;
 mod turned;
@@ -16,6 +17,7 @@ mod uneven;
 pub use alternate::{second_rule, third_rule};
 pub use check::Broken;
 pub use fault::Fault;
+pub use granting::{eighth_rule, ninth_rule};
 pub use turned::seventh_rule;
 pub use uneven::first_rule;
 
