@@ -8,12 +8,19 @@ mod choices;
 mod ends;
 mod fault;
 mod grant;
+mod overlaps;
 mod places;
+mod search;
+mod sets;
+mod twins;
 mod uneven;
 
 pub use alternate::{second_rule, third_rule};
 pub use check::Broken;
+pub use choices::fourth_rule;
 pub use fault::Fault;
+pub use overlaps::sixth_rule;
+pub use twins::fifth_rule;
 pub use uneven::first_rule;
 
 #[cfg(test)]
