@@ -1,7 +1,7 @@
 pub mod Lesser
 pub mod Steps
 pub mod Sides
-pub mod Forms
+pub mod GrantSteps
 pub mod SearchSteps
 pub mod OverlapSteps
 pub mod TwinSteps

@@ -2,3 +2,4 @@ pub mod Least
 pub mod Bursts
 pub mod Ends
 pub mod Rules
+pub mod Grants
