@@ -5,3 +5,6 @@ pub mod GrantSteps
 pub mod SpotSteps
 pub mod TurnedSteps
 pub mod GrantingSteps
+pub mod SearchSteps
+pub mod OverlapSteps
+pub mod TwinSteps
