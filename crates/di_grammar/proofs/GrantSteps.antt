@@ -5,11 +5,12 @@ use Rattle.std.proofs.lemmas.List.{take_rest}
 use Rattle.std.proofs.lemmas.Bool.{false≢true}
 use Rattle.cmd_tree.specs.declared.tree.Item.{Item}
 use Rattle.cmd_tree.specs.declared.tree.Mark.{Mark}
-use Rattle.cmd_tree.specs.Tree.{TItem, TSeq, TSeqs}
+use Rattle.cmd_tree.specs.Tree.{TItem, TSeq, TSeqs, TBurst, TAlt, Done, Then, places_of, places_in, places_among}
 use Rattle.cmd_tree.specs.View.{item_of, seq_of, seqs_of}
 use Rattle.di_grammar.specs.declared.grant.Form.{Form}
+use Rattle.di_grammar.specs.declared.grant.Form.TheVariants.{Plain, Release}
 use Rattle.di_grammar.specs.Bursts.{Burst}
-use Rattle.di_grammar.specs.Rules.{cons_some, marks_by, placed_if, plain_mark, choice_of_lone, lone_item, input_mark, single_mark, bursts_if, plain_granted, is_empty}
+use Rattle.di_grammar.specs.Rules.{cons_some, marks_by, placed_if, plain_mark, choice_of_lone, lone_item, input_mark, single_mark, output_mark, with_second, mark_of_lone, bursts_if, plain_granted, is_empty}
 use Rattle.di_grammar.specs.Grants.{mark_by, step_of, burst_if, given}
 
 -- a sequence of two items or more is no lone item
@@ -18,11 +19,56 @@ no_lone_item f [] h = absurd (omega arith)
 no_lone_item f (x ∷ []) h = absurd (omega arith)
 no_lone_item f (x ∷ y ∷ xs) h = refl
 
+-- an alternative that gives a mark has so many places
+single_place : (i : TItem) → is_some (single_mark i) ≡ true → places_in i ≡ 1
+single_place (TBurst []) h = absurd (false≢true h)
+single_place (TBurst (m ∷ [])) h = refl
+single_place (TBurst (m ∷ n ∷ ms)) h = absurd (false≢true h)
+single_place (TAlt ss) h = absurd (false≢true h)
+
+output_some : (m : Option Mark) → is_some (output_mark m) ≡ true → is_some m ≡ true
+output_some None h = h
+output_some (Some m) h = refl
+
+input_some : (m : Option Mark) → is_some (input_mark m) ≡ true → is_some m ≡ true
+input_some None h = h
+input_some (Some m) h = refl
+
+second_some : (m d : Option Mark) → is_some (with_second m d) ≡ true → (is_some m ≡ true) × (is_some d ≡ true)
+second_some m None h = absurd (false≢true h)
+second_some m (Some d) h = (h, refl)
+
+lone_place : (s : TSeq) → is_some (mark_of_lone (lone_item s)) ≡ true → places_of s ≡ 1
+lone_place Done h = absurd (false≢true h)
+lone_place (Then i Done) h = omega (arith, single_place i h)
+lone_place (Then i (Then j s)) h = absurd (false≢true h)
+
+pub mark_places : (form : Form) (s : TSeq) → is_some (mark_by form s) ≡ true → places_of s ≡ step_of form
+mark_places Plain s h = lone_place s (output_some (mark_of_lone (lone_item s)) h)
+mark_places Release Done h = absurd (false≢true h)
+mark_places Release (Then i s) h =
+    let both = second_some (output_mark (single_mark i)) (input_mark (mark_of_lone (lone_item s))) h in
+    omega (
+      arith,
+      single_place i (output_some (single_mark i) both.0),
+      lone_place s (input_some (mark_of_lone (lone_item s)) both.1),
+    )
+
+pub input_place : (i : TItem) (m : Mark) → input_mark (single_mark i) ≡ Some m → places_in i ≡ 1
+input_place i m e = single_place i (input_some (single_mark i) (ap (λ (o : Option Mark). is_some o) e))
+
+-- a choice that stands alone is no longer than the sequence
+pub choice_places : (s : TSeq) → places_among (choice_of_lone (lone_item s)) ≤ places_of s
+choice_places Done = omega arith
+choice_places (Then (TBurst ms) Done) = omega arith
+choice_places (Then (TAlt ss) Done) = omega arith
+choice_places (Then i (Then j s)) = omega arith
+
 given_more : (step k : ℕ) (m : Option Mark) (ms : Option (List Mark)) (rest : List Burst) → is_some (cons_some m ms) ≡ true
-    → (is_some ms ≡ true → placed_if step (k + step) ms ≡ rest) → placed_if step k (cons_some m ms) ≡ burst_if k m ++ rest
+    → (is_some m ≡ true → is_some ms ≡ true → placed_if step (k + step) ms ≡ rest) → placed_if step k (cons_some m ms) ≡ burst_if k m ++ rest
 given_more step k None ms rest h more = absurd (false≢true h)
 given_more step k (Some m) None rest h more = absurd (false≢true h)
-given_more step k (Some m) (Some ms) rest h more = ap (λ (bs : List Burst). record { place = k; marks = m ∷ [] } ∷ bs) (more refl)
+given_more step k (Some m) (Some ms) rest h more = ap (λ (bs : List Burst). record { place = k; marks = m ∷ [] } ∷ bs) (more refl refl)
 
 -- where each alternative gives a mark
 pub given_placed : (form : Form) (k : ℕ) (xs : List TSeq) → is_some (marks_by (mark_by form) (seqs_of xs)) ≡ true
@@ -30,8 +76,9 @@ pub given_placed : (form : Form) (k : ℕ) (xs : List TSeq) → is_some (marks_b
 given_placed form k [] h = refl
 given_placed form k (x ∷ xs) h =
     let marks = marks_by (mark_by form) (seqs_of xs) in
-    let rest = given form (k + step_of form) xs in
-    sym (given_more (step_of form) k (mark_by form x) marks rest h (λ e. sym (given_placed form (k + step_of form) xs e)))
+    let rest = given form (k + places_of x) xs in
+    sym (given_more (step_of form) k (mark_by form x) marks rest h
+    (λ f e. ap (λ (n : ℕ). placed_if (step_of form) (k + n) marks) (sym (mark_places form x f)) ∙ sym (given_placed form (k + places_of x) xs e)))
 
 full_from : (m : Option Mark) (ms : Option (List Mark)) (step k : ℕ) → is_some (cons_some m ms) ≡ true → true ≡ not (is_empty (placed_if step k (cons_some m ms)))
 full_from None ms step k h = absurd (false≢true h)

@@ -2,6 +2,9 @@ pub mod Lesser
 pub mod Steps
 pub mod Sides
 pub mod GrantSteps
+pub mod SpotSteps
+pub mod TurnedSteps
+pub mod GrantingSteps
 pub mod SearchSteps
 pub mod OverlapSteps
 pub mod TwinSteps

@@ -3,3 +3,4 @@ pub mod Bursts
 pub mod Ends
 pub mod Rules
 pub mod Grants
+pub mod Seeks

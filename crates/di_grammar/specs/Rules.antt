@@ -10,6 +10,7 @@ use Rattle.cmd_tree.specs.Limits.{of_part, marks_of_proc}
 use Rattle.di_grammar.specs.declared.fault.Fault.{Fault}
 use Rattle.di_grammar.specs.declared.check.Broken.{Broken}
 use Rattle.di_grammar.specs.declared.ends.Dirs.{Dirs}
+use Rattle.di_grammar.specs.declared.spots.Spot.{Spot}
 use Rattle.di_grammar.specs.Ends.{is_output, same_dir, of_dir, dirs_of}
 use Rattle.di_grammar.specs.Bursts.{Burst, dir_of, bursts_of, firsts_of, firsts_in, firsts_among, lasts_of, lasts_in, lasts_among}
 use Rattle.di_grammar.specs.Least.{least}
@@ -159,21 +160,21 @@ overlapping (b ∷ bs) all = overlaps b all ++ overlapping bs all
 
 -- RULE 7: a symbol has one direction in the whole command.
 
--- the first mark of this symbol: its process, place and mark. Processes and places are numbered from q and k on
-pub record Spot : Type 0 where
-  pub process : ℕ
-  pub place : ℕ
-  pub mark : Mark
-
+-- marks of process q, the first at place k, as spots
 abbrev pub spots_from : ℕ → ℕ → List Mark → List Spot
 spots_from q k [] = []
 spots_from q k (m ∷ ms) = record { process = q; place = k; mark = m } ∷ spots_from q (k + 1) ms
 
--- all marks of a command, in text order
-abbrev pub spots_of : ℕ → List Proc → List Spot
-spots_of q [] = []
-spots_of q (p ∷ ps) = spots_from q 1 (marks_of_proc p) ++ spots_of (q + 1) ps
+-- in text order, the marks of the processes that are meant, where the first process has number q
+abbrev pub spots_where : (ℕ → Proc → Bool) → ℕ → List Proc → List Spot
+spots_where f q [] = []
+spots_where f q (p ∷ ps) = (if f q p then spots_from q 1 (marks_of_proc p) else []) ++ spots_where f (q + 1) ps
 
+-- all marks of a command
+abbrev pub spots_of : List Proc → List Spot
+spots_of ps = spots_where (λ q p. true) 1 ps
+
+-- the first mark of this symbol
 abbrev pub first_spot : Mark → List Spot → Option Spot
 first_spot m [] = None
 first_spot m (s ∷ ss) = if has_symbol_of m s.mark then Some s else first_spot m ss
@@ -296,10 +297,6 @@ granted_twice [] all = []
 granted_twice (b ∷ bs) all = twins b.place b all ++ granted_twice bs all
 
 -- the marks of the other grants, and of the processes that are none
-abbrev pub spots_where : (ℕ → Proc → Bool) → ℕ → List Proc → List Spot
-spots_where f q [] = []
-spots_where f q (p ∷ ps) = (if f q p then spots_from q 1 (marks_of_proc p) else []) ++ spots_where f (q + 1) ps
-
 abbrev pub spots_of_grants_but : ℕ → List Proc → List Spot
 spots_of_grants_but q ps = spots_where (λ r p. is_grant p && not (nat_eq r q)) 1 ps
 
@@ -357,7 +354,7 @@ abbrev pub rule_6 : Proc → List Fault
 rule_6 p = unless_grant p (overlapping (bursts_of_proc p) (bursts_of_proc p))
 
 abbrev pub rule_7 : List Proc → Proc → List Fault
-rule_7 ps p = turned (spots_of 1 ps) 1 (marks_of_proc p)
+rule_7 ps p = turned (spots_of ps) 1 (marks_of_proc p)
 
 abbrev pub rule_8 : Proc → List Fault
 rule_8 p = granted_twice (granted p) (granted p)

@@ -1,7 +1,9 @@
-ghost use Rattle.std.specs.Prelude.{◌≡◌, ◌++◌, [], length, is_some, not};
+ghost use Rattle.std.specs.Prelude.{◌≡◌, ◌≤◌, ◌+◌, ◌++◌, [], length, is_some, not};
+ghost use Rattle.cmd_tree.specs.Tree.{places_of, places_among};
+ghost use Rattle.cmd_tree.specs.Limits.{places_of_proc};
 ghost use Rattle.cmd_tree.specs.View.{item_of, seqs_of, seq_of};
 ghost use Rattle.di_grammar.specs.Rules.{single, single_mark, lone_item, mark_of_lone, output_mark, input_mark, with_second, plain_mark, release_mark, marks_by, placed_if, choice_of_lone, plain_granted, release_granted, granted, is_empty, is_grant};
-ghost use Rattle.di_grammar.specs.Grants.{mark_by, first_place, step_of, given_by};
+ghost use Rattle.di_grammar.specs.Grants.{mark_by, first_place, step_of, given_by, place_after};
 
 use cmd_tree::{Dir, Item, Mark, Proc, Seq};
 
@@ -32,6 +34,7 @@ pub fn is_grant(process: &Proc) -> bool
 /// A process as a grant, where it is one.
 pub fn grant_of(process: &Proc) -> Option<Grant<'_>>
     ensures given { given_by result ≡ granted process.now }
+    ensures within { place_after result ≤ 1 + places_of_proc process.now }
     ensures full { is_some result ≡ not (is_empty (given_by result)) }
 {
     match &process.lead {
@@ -45,6 +48,7 @@ pub fn grant_of(process: &Proc) -> Option<Grant<'_>>
 
 fn body_grant(seq: &Seq) -> Option<Grant<'_>>
     ensures given { given_by result ≡ plain_granted seq.now ++ release_granted seq.now }
+    ensures within { place_after result ≤ 1 + places_of seq.now }
     ensures full { is_some result ≡ not (is_empty (given_by result)) }
 {
     match plain_grant(seq) {
@@ -55,6 +59,7 @@ fn body_grant(seq: &Seq) -> Option<Grant<'_>>
 
 fn plain_grant(seq: &Seq) -> Option<Grant<'_>>
     ensures given { given_by result ≡ plain_granted seq.now }
+    ensures within { place_after result ≤ 1 + places_of seq.now }
     ensures full { is_some result ≡ not (is_empty (given_by result)) }
 {
     match seq.items.as_slice() {
@@ -68,6 +73,7 @@ fn plain_grant(seq: &Seq) -> Option<Grant<'_>>
 
 fn release_grant(seq: &Seq) -> Option<Grant<'_>>
     ensures given { given_by result ≡ release_granted seq.now }
+    ensures within { place_after result ≤ 1 + places_of seq.now }
     ensures full { is_some result ≡ not (is_empty (given_by result)) }
 {
     grant_in(Form::Release, lone_choice(seq.items.as_slice()))
@@ -89,6 +95,7 @@ fn lone_choice(items: &[Item]) -> &[Seq]
 
 fn grant_in(form: Form, choice: &[Seq]) -> Option<Grant<'_>>
     ensures given { given_by result ≡ placed_if (step_of form) (first_place form) (marks_by (mark_by form) (seqs_of choice.now)) }
+    ensures within { place_after result ≤ first_place form + places_among (seqs_of choice.now) }
     ensures full { is_some result ≡ not (is_empty (given_by result)) }
 {
     if choice.is_empty() {
@@ -119,16 +126,6 @@ impl Form {
         match self {
             Form::Plain => 2,
             Form::Release => 1,
-        }
-    }
-
-    // How many places each alternative has.
-    pub fn step(self) -> u32
-        ensures { result ≡ step_of self }
-    {
-        match self {
-            Form::Plain => 1,
-            Form::Release => 2,
         }
     }
 
