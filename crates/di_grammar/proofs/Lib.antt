@@ -1,4 +1,11 @@
 pub mod Lesser
 pub mod Steps
 pub mod Sides
-pub mod Forms
+pub mod GrantSteps
+pub mod SpotSteps
+pub mod TurnedSteps
+pub mod GrantingSteps
+pub mod SearchSteps
+pub mod OverlapSteps
+pub mod TwinSteps
+pub mod Answering

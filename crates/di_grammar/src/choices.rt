@@ -1,14 +1,43 @@
 ghost use Rattle.std.specs.Prelude.{◌≡◌, ◌+◌, ◌<◌, ◌^◌, ◌++◌, []};
 ghost use Rattle.cmd_tree.specs.Tree.{places_of, places_in};
-ghost use Rattle.cmd_tree.specs.Limits.{of_part};
+ghost use Rattle.cmd_tree.specs.Limits.{of_part, places_of_proc};
 ghost use Rattle.cmd_tree.specs.View.{item_of};
 ghost use Rattle.di_grammar.specs.Least.{least};
-ghost use Rattle.di_grammar.specs.Rules.{begins_with_output, ends_with_both, bad_choice, bad_choices, bad_choices_in};
+ghost use Rattle.di_grammar.specs.Rules.{begins_with_output, ends_with_both, bad_choice, bad_choices, bad_choices_in, body_place, is_grant, rule_4};
 
 use crate::ends::{Dirs, Side, item_dirs};
 use crate::fault::{Fault, fault_at, lesser};
-use crate::places::{item_places, seq_places};
-use cmd_tree::{Item, Seq};
+use crate::places::{item_places, part_places, seq_places};
+use cmd_tree::{Item, Proc, Seq};
+
+/// The least fault of a process by the fourth rule: each alternative of a choice begins with
+/// inputs, and all end with one direction. A grant has no such fault.
+pub fn fourth_rule(process: &Proc, grant: bool) -> Option<Fault>
+    requires fits { places_of_proc process.now + 1 < 2 ^ 32 }
+    requires granted { grant ≡ is_grant process.now }
+    ensures { result ≡ least (rule_4 process.now) }
+{
+    if grant { None } else { bad_choices(process) }
+}
+
+fn bad_choices(process: &Proc) -> Option<Fault>
+    requires { places_of_proc process.now + 1 < 2 ^ 32 }
+    ensures { result ≡ least (of_part [] (bad_choices 1) process.now.lead ++ of_part [] (bad_choices (body_place process.now)) process.now.body) }
+{
+    let lead = bad_choices_part(&process.lead, 1);
+    let body = bad_choices_part(&process.body, 1 + part_places(&process.lead));
+    lesser(lead, body)
+}
+
+fn bad_choices_part(part: &Option<Seq>, first: u32) -> Option<Fault>
+    requires { first + of_part 0 places_of part.now < 2 ^ 32 }
+    ensures { result ≡ least (of_part [] (bad_choices first) part.now) }
+{
+    match part {
+        None => None,
+        Some(seq) => bad_choices_seq(seq, first),
+    }
+}
 
 fn bad_choice(begins: Dirs, ends: Dirs) -> Option<Fault>
     ensures { result ≡ least (bad_choice begins ends) }
@@ -37,10 +66,8 @@ fn ends_with_both(input: Option<u32>, output: Option<u32>) -> Option<Fault>
     }
 }
 
-/// The least fault of the choices of a sequence: each alternative begins with inputs, and all end
-/// with one direction.
 #[cycle(choices)]
-pub fn bad_choices_seq(seq: &Seq, first: u32) -> Option<Fault>
+fn bad_choices_seq(seq: &Seq, first: u32) -> Option<Fault>
     requires { first + places_of seq.now < 2 ^ 32 }
     ensures { result ≡ least (bad_choices first seq.now) }
 {

@@ -3,17 +3,29 @@
 #![tactic(auto)]
 
 mod alternate;
-mod check;
+mod answer;
 mod choices;
 mod ends;
 mod fault;
 mod grant;
+mod granting;
+mod overlaps;
 mod places;
+mod search;
+mod sets;
+mod spots;
+mod turned;
+mod twins;
 mod uneven;
 
 pub use alternate::{second_rule, third_rule};
-pub use check::Broken;
+pub use answer::{Broken, check};
+pub use choices::fourth_rule;
 pub use fault::Fault;
+pub use granting::{eighth_rule, ninth_rule};
+pub use overlaps::sixth_rule;
+pub use turned::seventh_rule;
+pub use twins::fifth_rule;
 pub use uneven::first_rule;
 
 #[cfg(test)]

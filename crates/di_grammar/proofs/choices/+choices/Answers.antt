@@ -1,9 +1,6 @@
-use Rattle.std.proofs.Common.{arith, ◌++◌}
-use Rattle.cmd_tree.specs.View.{item_of}
-use Rattle.di_grammar.specs.Bursts.{firsts_in}
-use Rattle.di_grammar.specs.Rules.{clashes, unalternating_in}
-use Rattle.di_grammar.proofs.Lesser.{found_step, least_two}
-use Rattle.di_grammar.proofs.Steps.{places_items, places_seqs, unalternating_items, unalternating_seqs, bad_items, bad_seqs}
+use Rattle.std.proofs.Common.{arith}
+use Rattle.di_grammar.proofs.Lesser.{found_step}
+use Rattle.di_grammar.proofs.Steps.{places_items, places_seqs, bad_items, bad_seqs}
 use Rattle.di_grammar.proofs.choices.+choices.Goals as goal
 
 pub bad_choices_seq-loop-item-preserved : goal.bad_choices_seq-loop-item-preserved
