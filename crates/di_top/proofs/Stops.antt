@@ -10,8 +10,9 @@ use Rattle.cmd_text.specs.declared.file.Refusal.TheVariants as text
 use Rattle.cmd_text.specs.Fault as faults
 use Rattle.cmd_text.specs.Source.{IsTextOfBytes, IsShallowText, IsFaultOfBytes}
 use Rattle.cmd_text.specs.ScanView.{fault_of}
-use Rattle.di_grammar.specs.declared.decide.Broken.{Broken}
+use Rattle.di_grammar.specs.declared.answer.Broken.{Broken}
 use Rattle.di_grammar.specs.Rules.{broken, Admitted}
+use Rattle.di_grammar.proofs.Answering.{admitted_none}
 use Rattle.di_top.specs.declared.outcome.Outcome.{Outcome}
 use Rattle.di_top.specs.declared.outcome.Outcome.TheVariants.{Done, Refused, NoMemory, Limit}
 use Rattle.di_top.specs.declared.outcome.Why.TheVariants as why
@@ -55,15 +56,12 @@ pub admitted_text : (bytes : List ℕ) (names all : List (List ℕ)) (ss : List 
 admitted_text bytes names all ss procs f e a = record { source = source_is bytes all ss (Main names procs) f e; admitted = a }
 
 -- ---- an admitted text stops no call
-pub admitted_whole : (procs : List Proc) → Admitted procs → broken procs ≡ None
-admitted_whole procs a = a
-
 pub not_stopped : (bytes : List ℕ) (names : List (List ℕ)) (procs : List Proc) (outcome : Outcome) → IsAdmittedText bytes names procs → StopsWith bytes outcome → ⊥
 not_stopped bytes names procs outcome a (TooLong long e) = omega (arith, a.source.read.few, long)
 not_stopped bytes names procs outcome a (Faulty refusal fault few told is e) = no_source bytes fault (Main names procs) is a.source
 not_stopped bytes names procs outcome a (Refuses is s e) =
     let same : is ≡ Main names procs = one_source bytes is (Main names procs) s a.source in
-    let none : refused_as (Main names procs) ≡ None = ap (option_map (λ b. Refused (why.Grammar b))) (admitted_whole procs a.admitted) in
+    let none : refused_as (Main names procs) ≡ None = ap (option_map (λ b. Refused (why.Grammar b))) (admitted_none procs a.admitted) in
     let bad : None ≡ Some outcome = sym none ∙ ap refused_as (sym same) ∙ e in
     absurd (cc)
 

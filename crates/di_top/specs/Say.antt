@@ -1,8 +1,8 @@
 -- The line that is said of each outcome.
-use Rattle.std.specs.Prelude.{ℕ, List, [], ◌++◌, codes}
+use Rattle.std.specs.Prelude.{ℕ, ◌-◌, List, [], ◌∷◌, ◌++◌, get_or, codes}
 use Rattle.cmd_text.specs.declared.file.Refusal.{Refusal}
 use Rattle.cmd_text.specs.declared.file.Refusal.TheVariants as text
-use Rattle.di_grammar.specs.declared.decide.Broken.{Broken}
+use Rattle.di_grammar.specs.declared.answer.Broken.{Broken}
 use Rattle.di_top.specs.Decimals.{worded, numbered_line}
 use Rattle.di_top.specs.declared.outcome.Outcome.{Outcome}
 use Rattle.di_top.specs.declared.outcome.Outcome.TheVariants.{Done, Refused, Usage, ReadFault, WriteFault, NoMemory, Limit}
@@ -31,18 +31,12 @@ why_line (Text refusal) = text_line refusal
 why_line NotThisForm = codes "refused form\n"
 why_line (Grammar b) = grammar_line b
 
--- what each limit allows; there are no others
+-- what each limit allows, from the first on; there are nine
+abbrev pub limits : List ℕ
+limits = 1048576 ∷ 64 ∷ 1024 ∷ 256 ∷ 8192 ∷ 65536 ∷ 16777216 ∷ 262144 ∷ 255 ∷ []
+
 abbrev pub allowed : ℕ → ℕ
-allowed 1 = 1048576
-allowed 2 = 64
-allowed 3 = 1024
-allowed 4 = 256
-allowed 5 = 8192
-allowed 6 = 65536
-allowed 7 = 16777216
-allowed 8 = 262144
-allowed 9 = 255
-allowed k = 0
+allowed limit = get_or limits (limit - 1) 0
 
 abbrev pub limit_line : ℕ → ℕ → List ℕ
 limit_line limit value =

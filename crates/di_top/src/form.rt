@@ -5,7 +5,7 @@ ghost use Rattle.cmd_tree.specs.Limits.{places_of_all};
 ghost use Rattle.cmd_tree.specs.Tree.{places_of};
 ghost use Rattle.di_top.specs.Forms.{TakesThenGives, Compiles, IsFormed, BodyOf, BurstsOf, mark_of};
 
-use cmd_tree::{Command, Dir, Item, Mark, Proc, Seq};
+use cmd_tree::{Command, Dir, Item, Mark, Proc, Seq, Sym};
 
 /// A command that takes all its inputs and then gives all its outputs, again and again, with how many it has
 /// of each.
@@ -76,7 +76,11 @@ fn is_row(marks: &[Mark], from: usize, dir: Dir) -> bool
     ensures other { result ≡ false → marks.now ≡ map (mark_of dir) (range_with_len from (length marks.now)) → ⊥ }
 {
     for (index, mark) in marks.iter().enumerate() {
-        if mark.dir != dir || mark.sym.0 != (from + index) as u32 {
+        let next = Mark {
+            sym: Sym((from + index) as u32),
+            dir,
+        };
+        if *mark != next {
             return false;
         }
     }

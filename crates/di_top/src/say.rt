@@ -82,20 +82,18 @@ fn say_limit<S: Sink>(limit: u8, value: u64, sink: &mut S) -> Result<(), PutFaul
     put_numbered(b", allowed ", allowed(limit), sink)
 }
 
-/// What a limit allows.
+/// What each limit allows, from the first on.
+const LIMITS: [u64; 9] = [
+    1_048_576, 64, 1024, 256, 8192, 65_536, 16_777_216, 262_144, 255,
+];
+
+/// What a limit allows; 0 of a number that no limit has.
 fn allowed(limit: u8) -> u64
     ensures { result ≡ allowed limit }
 {
-    match limit {
-        1 => 1_048_576,
-        2 => 64,
-        3 => 1024,
-        4 => 256,
-        5 => 8192,
-        6 => 65_536,
-        7 => 16_777_216,
-        8 => 262_144,
-        9 => 255,
-        _ => 0,
+    let index = (limit as usize).saturating_sub(1);
+    match LIMITS.get(index) {
+        Some(most) => *most,
+        None => 0,
     }
 }
