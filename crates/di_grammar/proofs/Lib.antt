@@ -8,3 +8,4 @@ pub mod GrantingSteps
 pub mod SearchSteps
 pub mod OverlapSteps
 pub mod TwinSteps
+pub mod Answering

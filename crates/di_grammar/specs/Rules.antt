@@ -1,14 +1,15 @@
 -- The nine rules of an admitted command. Each is told by its faults; it holds where there is none.
-use Rattle.std.specs.Prelude.{◌≡◌, ℕ, ◌+◌, Bool, true, false, ◌&&◌, ◌||◌, not, nat_lt, nat_le, nat_eq, if◌then◌else◌, List, [], ◌∷◌, ◌++◌, length, max, min, Option, Some, None}
+use Rattle.std.specs.Prelude.{◌≡◌, ℕ, ◌+◌, Bool, true, false, ◌&&◌, not, nat_lt, nat_eq, if◌then◌else◌, List, [], ◌∷◌, ◌++◌, max, min, Option, Some, None, ⊤}
 use Rattle.std.specs.List.{list_any, list_all}
 use Rattle.cmd_tree.specs.declared.tree.Dir.{Dir}
-use Rattle.cmd_tree.specs.declared.tree.Dir.TheVariants.{Input, Output}
 use Rattle.cmd_tree.specs.declared.tree.Mark.{Mark}
 use Rattle.cmd_tree.specs.declared.tree.Proc.{Proc}
-use Rattle.cmd_tree.specs.Tree.{TItem, TSeq, TSeqs, TBurst, TAlt, Stop, Or, Done, Then, places_of, places_in, marks_of}
+use Rattle.cmd_tree.specs.Tree.{TItem, TSeq, TSeqs, TBurst, TAlt, Stop, Or, Done, Then, places_of, places_in}
 use Rattle.cmd_tree.specs.Limits.{of_part, marks_of_proc}
 use Rattle.di_grammar.specs.declared.fault.Fault.{Fault}
-use Rattle.di_grammar.specs.declared.check.Broken.{Broken}
+use Rattle.di_grammar.specs.declared.answer.Broken.{Broken}
+use Rattle.di_grammar.specs.declared.answer.Rule.{Rule}
+use Rattle.di_grammar.specs.declared.answer.Rule.TheVariants.{Bursts, Neighbours, Rounds, Choices, Twins, Overlaps, Directions, Granted, Homes}
 use Rattle.di_grammar.specs.declared.ends.Dirs.{Dirs}
 use Rattle.di_grammar.specs.declared.spots.Spot.{Spot}
 use Rattle.di_grammar.specs.Ends.{is_output, same_dir, of_dir, dirs_of}
@@ -362,6 +363,17 @@ rule_8 p = granted_twice (granted p) (granted p)
 abbrev pub rule_9 : List Proc → ℕ → Proc → List Fault
 rule_9 ps q p = badly_granted_among (spots_from q 1 (marks_of_proc p)) (spots_of_grants_but q ps) (spots_of_others ps) (granted p)
 
+abbrev pub faults_of : Rule → List Proc → ℕ → Proc → List Fault
+faults_of Bursts ps q p = rule_1 p
+faults_of Neighbours ps q p = rule_2 p
+faults_of Rounds ps q p = rule_3 p
+faults_of Choices ps q p = rule_4 p
+faults_of Twins ps q p = rule_5 p
+faults_of Overlaps ps q p = rule_6 p
+faults_of Directions ps q p = rule_7 ps p
+faults_of Granted ps q p = rule_8 p
+faults_of Homes ps q p = rule_9 ps q p
+
 -- THE ANSWER: of the least broken rule, in the least process, the least fault.
 
 abbrev pub or_else : Option Broken → Option Broken → Option Broken
@@ -369,31 +381,63 @@ or_else None b = b
 or_else (Some a) b = Some a
 
 -- an other process of number 0 is the process itself
+abbrev pub other_process : ℕ → Fault → ℕ
+other_process q f = if nat_eq f.other_process 0 then q else f.other_process
+
 abbrev pub answer_of : ℕ → ℕ → Option Fault → Option Broken
 answer_of rule q None = None
 answer_of rule q (Some f) = Some (record {
   rule = rule;
   process = q;
   place = f.place;
-  other_process = if nat_eq f.other_process 0 then q else f.other_process;
+  other_process = other_process q f;
   other = f.other;
 })
 
+-- in the least process, where the first has number q
 abbrev pub broken_in : ℕ → (ℕ → Proc → List Fault) → ℕ → List Proc → Option Broken
 broken_in rule faults q [] = None
 broken_in rule faults q (p ∷ ps) = or_else (answer_of rule q (least (faults q p))) (broken_in rule faults (q + 1) ps)
 
-abbrev pub broken : List Proc → Option Broken
-broken ps =
-    or_else (broken_in 1 (λ q p. rule_1 p) 1 ps)
-    (or_else (broken_in 2 (λ q p. rule_2 p) 1 ps)
-    (or_else (broken_in 3 (λ q p. rule_3 p) 1 ps)
-    (or_else (broken_in 4 (λ q p. rule_4 p) 1 ps)
-    (or_else (broken_in 5 (λ q p. rule_5 p) 1 ps)
-    (or_else (broken_in 6 (λ q p. rule_6 p) 1 ps)
-    (or_else (broken_in 7 (λ q p. rule_7 ps p) 1 ps)
-    (or_else (broken_in 8 (λ q p. rule_8 p) 1 ps)
-    (broken_in 9 (λ q p. rule_9 ps q p) 1 ps))))))))
+abbrev pub number_of : Rule → ℕ
+number_of Bursts = 1
+number_of Neighbours = 2
+number_of Rounds = 3
+number_of Choices = 4
+number_of Twins = 5
+number_of Overlaps = 6
+number_of Directions = 7
+number_of Granted = 8
+number_of Homes = 9
 
-abbrev pub Admitted : List Proc → Type 0
-Admitted ps = broken ps ≡ None
+-- of the first of these rules that is broken
+abbrev pub broken_among : List Rule → List Proc → Option Broken
+broken_among [] ps = None
+broken_among (r ∷ rs) ps = or_else (broken_in (number_of r) (faults_of r ps) 1 ps) (broken_among rs ps)
+
+abbrev pub rules : List Rule
+rules = Bursts ∷ Neighbours ∷ Rounds ∷ Choices ∷ Twins ∷ Overlaps ∷ Directions ∷ Granted ∷ Homes ∷ []
+
+abbrev pub broken : List Proc → Option Broken
+broken ps = broken_among rules ps
+
+-- ADMITTED: no process has a fault of a rule.
+
+-- the first process has number q
+abbrev pub FreeFrom : ℕ → (ℕ → Proc → List Fault) → List Proc → Type 0
+FreeFrom q faults [] = ⊤
+FreeFrom q faults (p ∷ ps) = (faults q p ≡ []) × FreeFrom (q + 1) faults ps
+
+abbrev pub IsFree : (ℕ → Proc → List Fault) → List Proc → Type 0
+IsFree faults ps = FreeFrom 1 faults ps
+
+pub record Admitted (ps : List Proc) : Type 0 where
+  pub bursts : IsFree (λ q p. rule_1 p) ps
+  pub neighbours : IsFree (λ q p. rule_2 p) ps
+  pub rounds : IsFree (λ q p. rule_3 p) ps
+  pub choices : IsFree (λ q p. rule_4 p) ps
+  pub twins : IsFree (λ q p. rule_5 p) ps
+  pub overlaps : IsFree (λ q p. rule_6 p) ps
+  pub directions : IsFree (λ q p. rule_7 ps p) ps
+  pub granted : IsFree (λ q p. rule_8 p) ps
+  pub homes : IsFree (λ q p. rule_9 ps q p) ps

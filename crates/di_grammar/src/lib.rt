@@ -3,7 +3,7 @@
 #![tactic(auto)]
 
 mod alternate;
-mod check;
+mod answer;
 mod choices;
 mod ends;
 mod fault;
@@ -19,7 +19,7 @@ mod twins;
 mod uneven;
 
 pub use alternate::{second_rule, third_rule};
-pub use check::Broken;
+pub use answer::{Broken, check};
 pub use choices::fourth_rule;
 pub use fault::Fault;
 pub use granting::{eighth_rule, ninth_rule};
