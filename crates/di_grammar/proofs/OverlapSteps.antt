@@ -1,6 +1,7 @@
 -- The overlaps of bursts, and of the rest of a list of them.
-use Rattle.std.proofs.Common.{◌≡◌, ◌<◌, ◌+◌, ℕ, List, [], ◌∷◌, ◌++◌, length, get_or, drop, ap, sym, ◌∙◌, refl, append_assoc}
+use Rattle.std.proofs.Common.{◌≡◌, ◌<◌, ◌+◌, ℕ, List, [], ◌∷◌, ◌++◌, length, get_or, drop, ap, sym, ◌∙◌, refl, append_assoc, Bool, true, false}
 use Rattle.std.specs.Prelude.{◌&&◌, nat_lt}
+use Rattle.std.proofs.lemmas.Bool.{false≢true}
 use Rattle.cmd_tree.specs.declared.tree.Item.{Item}
 use Rattle.cmd_tree.specs.Tree.{TSeq, places_of, places_in}
 use Rattle.cmd_tree.specs.View.{item_of, seq_of, seqs_of}
@@ -20,6 +21,18 @@ pub overlapping_append : (all bs cs : List Burst) → overlapping (bs ++ cs) all
 overlapping_append all [] cs = refl
 overlapping_append all (b ∷ bs) cs =
     ap (λ (fs : List Fault). overlaps b all ++ fs) (overlapping_append all bs cs) ∙ sym (append_assoc (overlaps b all) (overlapping bs all) (overlapping cs all))
+
+-- an output burst overlaps none
+one_off : (t u v : Bool) (s : Bool) (f : Fault) → s ≡ false → if_so (t && s && u && v) f ≡ []
+one_off false u v s f h = refl
+one_off true u v false f h = refl
+one_off true u v true f h = absurd (false≢true (sym h))
+
+pub overlaps_off : (b : Burst) (os : List Burst) → is_input_burst b ≡ false → overlaps b os ≡ []
+overlaps_off b [] h = refl
+overlaps_off b (o ∷ os) h =
+    ap (λ (fs : List Fault). fs ++ overlaps b os) (one_off (nat_lt o.place b.place) (is_input_burst o) (overlap b.marks o.marks) (is_input_burst b) (fault 0 b.place o.place) h)
+    ∙ overlaps_off b os h
 
 pub overlaps_items : (b : Burst) (k : ℕ) (xs : List Item) (i : ℕ) (x : Item) → i < length xs → x ≡ get_or xs i x
     → Parts (overlaps b (bursts_of k (seq_of (drop i xs)))) (overlaps b (bursts_in k (item_of x)))

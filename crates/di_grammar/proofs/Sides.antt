@@ -1,11 +1,11 @@
 -- The first and the last bursts of the rest of a list, and the first of each direction among them.
-use Rattle.std.proofs.Common.{◌≡◌, ◌<◌, ◌≤◌, ◌+◌, ℕ, suc, List, [], ◌∷◌, ◌++◌, length, get_or, drop, ap, sym, ◌∙◌, refl, append_assoc, arith, Bool, true, false, Option, Some, None, subst}
+use Rattle.std.proofs.Common.{◌≡◌, ◌<◌, ◌≤◌, ◌+◌, ℕ, List, [], ◌∷◌, ◌++◌, length, get_or, drop, ap, sym, ◌∙◌, refl, append_assoc, arith, Bool, true, false, Option, Some, None}
 use Rattle.std.specs.Prelude.{if◌then◌else◌}
 use Rattle.std.proofs.lemmas.List.{length-drop}
 use Rattle.cmd_tree.specs.declared.tree.Dir.{Dir}
 use Rattle.cmd_tree.specs.declared.tree.Dir.TheVariants.{Input, Output}
 use Rattle.cmd_tree.specs.declared.tree.Item.{Item}
-use Rattle.cmd_tree.specs.Tree.{TSeq, places_of, places_in, places_among}
+use Rattle.cmd_tree.specs.Tree.{TSeq, places_of, places_in}
 use Rattle.cmd_tree.specs.View.{item_of, seq_of, seqs_of}
 use Rattle.di_grammar.specs.declared.ends.Dirs.{Dirs}
 use Rattle.di_grammar.specs.declared.ends.Side.{Side}

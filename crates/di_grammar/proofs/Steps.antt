@@ -1,7 +1,7 @@
 -- The faults of the rest of a list: those of its first element, and those of the rest after it.
-use Rattle.std.proofs.Common.{◌≡◌, ◌<◌, ◌≤◌, ◌+◌, ℕ, suc, List, [], ◌∷◌, ◌++◌, length, get_or, drop, take, ap, add-one, drop-cons, sym, ◌∙◌, refl, append_assoc, arith}
+use Rattle.std.proofs.Common.{◌≡◌, ◌<◌, ◌+◌, ℕ, suc, List, [], ◌∷◌, ◌++◌, length, get_or, drop, take, ap, add-one, drop-cons, sym, ◌∙◌, refl, append_assoc, arith}
 use Rattle.std.specs.Prelude.{not}
-use Rattle.std.proofs.lemmas.List.{drop_all, take_more, append-nil}
+use Rattle.std.proofs.lemmas.List.{take_more}
 use Rattle.cmd_tree.specs.declared.tree.Dir.{Dir}
 use Rattle.cmd_tree.specs.declared.tree.Item.{Item}
 use Rattle.cmd_tree.specs.declared.tree.Mark.{Mark}
@@ -10,7 +10,7 @@ use Rattle.cmd_tree.specs.View.{item_of, seq_of, seqs_of}
 use Rattle.di_grammar.specs.declared.fault.Fault.{Fault}
 use Rattle.di_grammar.proofs.Lesser.{Parts}
 use Rattle.di_grammar.specs.declared.ends.Dirs.{Dirs}
-use Rattle.di_grammar.specs.Bursts.{Burst, dir_of, bursts_of, bursts_in, bursts_among, firsts_in, lasts_in}
+use Rattle.di_grammar.specs.Bursts.{Burst, bursts_of, bursts_in, bursts_among, firsts_in, lasts_in}
 use Rattle.di_grammar.specs.Ends.{same_dir, dirs_of}
 use Rattle.di_grammar.specs.Rules.{fault, if_so, has_symbol_of, repeats, uneven_from, uneven_burst, uneven_bursts, clashes, unalternating, unalternating_in, unalternating_among, bad_choices, bad_choices_in, bad_choices_among}
 

@@ -1,7 +1,7 @@
 -- The bursts of a tree with their places, its first bursts and its last bursts. Places are counted by marks.
-use Rattle.std.specs.Prelude.{ℕ, ◌+◌, List, [], ◌∷◌, ◌++◌, Bool}
+use Rattle.std.specs.Prelude.{ℕ, ◌+◌, List, [], ◌∷◌, ◌++◌}
 use Rattle.cmd_tree.specs.declared.tree.Dir.{Dir}
-use Rattle.cmd_tree.specs.declared.tree.Dir.TheVariants.{Input, Output}
+use Rattle.cmd_tree.specs.declared.tree.Dir.TheVariants.{Input}
 use Rattle.cmd_tree.specs.declared.tree.Mark.{Mark}
 use Rattle.cmd_tree.specs.Tree.{TItem, TSeq, TSeqs, TBurst, TAlt, Stop, Or, Done, Then, places_of, places_in}
 

@@ -82,7 +82,8 @@ pub fn check(command: &Command) -> Option<Broken>
     first_broken(command.procs.as_slice())
 }
 
-fn first_broken(procs: &[Proc]) -> Option<Broken>
+/// Of processes that are few enough, what `check` answers of a command.
+pub fn first_broken(procs: &[Proc]) -> Option<Broken>
     requires count { length procs.now < 2 ^ 32 }
     requires places { places_of_all procs.now + 1 < 2 ^ 32 }
     ensures { result ≡ broken procs.now }

@@ -84,6 +84,9 @@ fn overlaps(place: u32, marks: &[Mark], process: &Proc) -> Option<Fault>
     requires { places_of_proc process.now + 1 < 2 ^ 32 }
     ensures { result ≡ least (overlaps (record { place = place; marks = marks.now }) (bursts_of_proc process.now)) }
 {
+    if !takes(marks) {
+        return None;
+    }
     let lead = overlaps_part(&process.lead, Search::at(1), place, marks);
     overlaps_part(&process.body, lead, place, marks).found
 }

@@ -3,10 +3,11 @@ ghost use Rattle.cmd_tree.specs.Tree.{places_of, places_in};
 ghost use Rattle.cmd_tree.specs.Limits.{places_of_proc};
 ghost use Rattle.cmd_tree.specs.View.{item_of, seq_of};
 
+use crate::answer::{Broken, check, first_broken};
 use crate::fault::Fault;
 use crate::grant::is_grant;
 use crate::{fifth_rule, first_rule, fourth_rule, second_rule, sixth_rule, third_rule};
-use cmd_tree::{Dir, Item, Mark, Proc, Seq, Sym};
+use cmd_tree::{Command, Dir, Item, Mark, Name, NameSet, Proc, Seq, Sym};
 use sqlite_items::Items;
 use std::alloc::{AllocError, Global};
 use std::test::Fail;
@@ -142,5 +143,118 @@ fn decides_overlaps_of_input_bursts(rt: HostRuntime) -> Result<(), Fail> {
     ]?);
     let found = sixth_rule(&process, is_grant(&process));
     assert_eq!(rt; found, fault(3, 0, 1));
+    Ok(())
+}
+
+// `pref*[asked?;granted!;released?;told!]`
+fn cell(
+    alloc: Global,
+    asked: u32,
+    granted: u32,
+    released: u32,
+    told: u32,
+) -> Result<Proc, AllocError>
+    ensures { IfOk result (λ process. places_of_proc process ≡ 4) }
+{
+    Ok(repeating(vec![in alloc;
+        take(alloc, asked)?,
+        give(alloc, granted)?,
+        take(alloc, released)?,
+        give(alloc, told)?,
+    ]?))
+}
+
+// `pref*[from?;to!]`
+fn wire(alloc: Global, from: u32, to: u32) -> Result<Proc, AllocError>
+    ensures { IfOk result (λ process. places_of_proc process ≡ 2) }
+{
+    Ok(repeating(vec![in alloc; take(alloc, from)?, give(alloc, to)?]?))
+}
+
+// `pref*[next?;(one!|other!)]`
+fn grant(alloc: Global, next: u32, one: u32, other: u32) -> Result<Proc, AllocError>
+    ensures { IfOk result (λ process. places_of_proc process ≡ 3) }
+{
+    let first = vec![in alloc; give(alloc, one)?]?;
+    let second = vec![in alloc; give(alloc, other)?]?;
+    let granting = choice(alloc, first, second)?;
+    Ok(repeating(vec![in alloc; take(alloc, next)?, granting]?))
+}
+
+fn broken(rule: u8, process: u32, place: u32, other_process: u32, other: u32) -> Option<Broken> {
+    Some(Broken {
+        rule,
+        process,
+        place,
+        other_process,
+        other,
+    })
+}
+
+#[test]
+fn admits_an_arbiter(rt: HostRuntime) -> Result<(), Fail> {
+    let alloc = rt.alloc();
+    let first = vec![in alloc; give(alloc, 1)?, take(alloc, 2)?]?;
+    let second = vec![in alloc; give(alloc, 5)?, take(alloc, 6)?]?;
+    let granting = repeating(vec![in alloc; choice(alloc, first, second)?]?);
+    let procs = vec![in alloc;
+        cell(alloc, 0, 1, 2, 3)?,
+        cell(alloc, 4, 5, 6, 7)?,
+        granting,
+    ]?;
+    assert_eq!(rt; first_broken(procs.as_slice()), None);
+    Ok(())
+}
+
+#[test]
+fn reports_what_grants_break(rt: HostRuntime) -> Result<(), Fail> {
+    let alloc = rt.alloc();
+    let alone = vec![in alloc; grant(alloc, 0, 1, 2)?]?;
+    assert_eq!(rt; first_broken(alone.as_slice()), broken(9, 1, 2, 1, 2));
+    let twice = vec![in alloc; grant(alloc, 0, 1, 1)?]?;
+    assert_eq!(rt; first_broken(twice.as_slice()), broken(8, 1, 3, 1, 2));
+    let both = vec![in alloc; grant(alloc, 0, 1, 2)?, grant(alloc, 3, 4, 1)?]?;
+    assert_eq!(rt; first_broken(both.as_slice()), broken(9, 1, 2, 2, 3));
+    Ok(())
+}
+
+#[test]
+fn reports_a_turned_symbol(rt: HostRuntime) -> Result<(), Fail> {
+    let alloc = rt.alloc();
+    let procs = vec![in alloc; wire(alloc, 0, 1)?, wire(alloc, 1, 2)?]?;
+    assert_eq!(rt; first_broken(procs.as_slice()), broken(7, 2, 1, 1, 2));
+    Ok(())
+}
+
+// `pref*[a?]`
+fn lone_input(alloc: Global) -> Result<Command, AllocError> {
+    let mut names = NameSet::new(alloc);
+    names.insert(Name::new(alloc, b"a")?)?;
+    let burst = Items::from_slice(
+        alloc,
+        &[Mark {
+            sym: Sym(0),
+            dir: Dir::Input,
+        }],
+    )?;
+    let body = vec![in alloc; Item::Burst(burst)]?;
+    let procs = vec![in alloc;
+        Proc {
+            lead: None,
+            body: Some(Seq {
+                items: Items::from_vec(body)
+            })
+        },
+    ]?;
+    Ok(Command {
+        names,
+        procs: Items::from_vec(procs),
+    })
+}
+
+#[test]
+fn checks_a_command(rt: HostRuntime) -> Result<(), Fail> {
+    let command = lone_input(rt.alloc())?;
+    assert_eq!(rt; check(&command), broken(3, 1, 1, 1, 1));
     Ok(())
 }

@@ -1,9 +1,9 @@
-use Rattle.std.proofs.Common.{arith, ◌++◌}
+use Rattle.std.proofs.Common.{arith}
 use Rattle.cmd_tree.specs.View.{item_of}
 use Rattle.di_grammar.specs.Bursts.{firsts_in}
 use Rattle.di_grammar.specs.Rules.{clashes, unalternating_in}
 use Rattle.di_grammar.proofs.Lesser.{found_step, least_two}
-use Rattle.di_grammar.proofs.Steps.{places_items, places_seqs, unalternating_items, unalternating_seqs, bad_items, bad_seqs}
+use Rattle.di_grammar.proofs.Steps.{places_items, places_seqs, unalternating_items, unalternating_seqs}
 use Rattle.di_grammar.proofs.alternate.+unalternating.Goals as goal
 
 pub unalternating_seq-loop-item-preserved : goal.unalternating_seq-loop-item-preserved

@@ -1,10 +1,8 @@
-use Rattle.std.proofs.Common.{◌≡◌, ◌+◌, ◌++◌, drop, []}
+use Rattle.std.proofs.Common.{◌≡◌, ◌+◌, drop}
 use Rattle.cmd_tree.specs.Tree.{places_of, places_among}
 use Rattle.cmd_tree.specs.View.{seq_of, seqs_of}
-use Rattle.di_grammar.specs.Bursts.{firsts_among, lasts_among}
-use Rattle.di_grammar.specs.Ends.{dirs_of}
 use Rattle.di_grammar.specs.Least.{lesser, least}
-use Rattle.di_grammar.specs.Rules.{unalternating, unalternating_among, bad_choice, bad_choices, bad_choices_among}
+use Rattle.di_grammar.specs.Rules.{unalternating, unalternating_among}
 use Rattle.di_grammar.proofs.alternate.+unalternating.Given as goal
 
 abbrev pub invariant-unalternating_seq-loop-item : goal.invariant-unalternating_seq-loop-item

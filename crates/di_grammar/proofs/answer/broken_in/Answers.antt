@@ -1,4 +1,4 @@
-use Rattle.std.proofs.Common.{◌≡◌, arith, sym, ◌∙◌, ap, ◌+◌, Option}
+use Rattle.std.proofs.Common.{arith, sym, ◌∙◌, ap, ◌+◌, Option}
 use Rattle.di_grammar.specs.declared.fault.Fault.{Fault}
 use Rattle.di_grammar.specs.Rules.{answer_of, faults_of, number_of}
 use Rattle.di_grammar.proofs.Answering.{process_found, process_past}

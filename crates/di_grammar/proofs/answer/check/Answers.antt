@@ -1,4 +1,4 @@
-use Rattle.std.proofs.Common.{◌≡◌, sym, ◌∙◌, ap}
+use Rattle.std.proofs.Common.{sym, ◌∙◌, ap}
 use Rattle.di_grammar.specs.Rules.{broken}
 use Rattle.di_grammar.proofs.Answering.{none_admitted, admitted_none}
 use Rattle.di_grammar.proofs.answer.check.Goals as goal

@@ -1,4 +1,4 @@
-use Rattle.std.proofs.Common.{◌≡◌, sym, ◌∙◌}
+use Rattle.std.proofs.Common.{sym, ◌∙◌}
 use Rattle.di_grammar.specs.Rules.{rules}
 use Rattle.di_grammar.proofs.Answering.{rule_found, rule_past}
 use Rattle.di_grammar.proofs.answer.first_broken.Goals as goal

@@ -1,5 +1,5 @@
 use Rattle.std.proofs.Common.{◌≡◌, drop}
-use Rattle.di_grammar.specs.Rules.{broken_among, rules, broken}
+use Rattle.di_grammar.specs.Rules.{broken_among, broken}
 use Rattle.di_grammar.proofs.answer.first_broken.Given as goal
 
 abbrev pub invariant-loop-rule : goal.invariant-loop-rule

@@ -1,7 +1,6 @@
 use Rattle.std.proofs.Common.{arith, ◌∙◌}
 use Rattle.di_grammar.specs.Ends.{ends_of, ends_among}
-use Rattle.di_grammar.proofs.Lesser.{found_step}
-use Rattle.di_grammar.proofs.Sides.{ends_next, among_next, clashes_next, dirs_step}
+use Rattle.di_grammar.proofs.Sides.{ends_next, among_next, dirs_step}
 use Rattle.di_grammar.proofs.Steps.{places_items, places_seqs}
 use Rattle.di_grammar.proofs.ends.+dirs.Goals as goal
 use Rattle.cmd_tree.specs.Tree.{places_of}

@@ -2,8 +2,6 @@ use Rattle.std.proofs.Common.{◌≡◌, ◌≤◌, ◌+◌, drop}
 use Rattle.cmd_tree.specs.Tree.{places_of, places_among}
 use Rattle.cmd_tree.specs.View.{seq_of, seqs_of}
 use Rattle.di_grammar.specs.Ends.{ends_of, ends_among, dirs_of, first_dirs}
-use Rattle.di_grammar.specs.Least.{lesser, least}
-use Rattle.di_grammar.specs.Rules.{clashes}
 use Rattle.di_grammar.proofs.ends.+dirs.Given as goal
 
 abbrev pub invariant-seq_dirs-loop-index : goal.invariant-seq_dirs-loop-index

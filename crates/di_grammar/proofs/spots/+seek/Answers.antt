@@ -1,4 +1,4 @@
-use Rattle.std.proofs.Common.{◌≡◌, arith, sym, ◌∙◌, ap, List}
+use Rattle.std.proofs.Common.{arith, sym, ◌∙◌, ap, List}
 use Rattle.cmd_tree.specs.declared.tree.Item.{Item}
 use Rattle.cmd_tree.specs.Tree.{TSeq, marks_of, marks_in, marks_among}
 use Rattle.cmd_tree.specs.View.{item_of, seq_of, seqs_of}

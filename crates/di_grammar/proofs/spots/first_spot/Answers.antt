@@ -1,8 +1,4 @@
-use Rattle.std.proofs.Common.{◌≡◌, arith, sym, ◌∙◌, ap, ◌+◌, drop, [], List}
-use Rattle.std.specs.Prelude.{if◌then◌else◌}
-use Rattle.cmd_tree.specs.Limits.{marks_of_proc}
-use Rattle.di_grammar.specs.declared.spots.Spot.{Spot}
-use Rattle.di_grammar.specs.Rules.{spots_from, spots_where, first_spot}
+use Rattle.std.proofs.Common.{arith, sym, ◌∙◌, ◌+◌}
 use Rattle.di_grammar.specs.Seeks.{is_among}
 use Rattle.di_grammar.proofs.SpotSteps.{spots_found, spots_past, each_place}
 use Rattle.di_grammar.proofs.spots.first_spot.Goals as goal

@@ -1,4 +1,4 @@
-use Rattle.std.proofs.Common.{◌≡◌, arith, sym, ◌∙◌, []}
+use Rattle.std.proofs.Common.{arith, sym, ◌∙◌, []}
 use Rattle.cmd_tree.specs.Tree.{marks_of}
 use Rattle.cmd_tree.specs.Limits.{of_part}
 use Rattle.di_grammar.proofs.SpotSteps.{seek_past, seek_found, past_place, length_marks_of_part}

@@ -1,4 +1,4 @@
-use Rattle.std.proofs.Common.{◌≡◌, sym, ◌∙◌}
+use Rattle.std.proofs.Common.{sym, ◌∙◌}
 use Rattle.cmd_tree.specs.Limits.{marks_of_proc}
 use Rattle.di_grammar.proofs.SpotSteps.{found_spot, past_spot}
 use Rattle.di_grammar.proofs.spots.spot_in.Goals as goal
