@@ -50,15 +50,15 @@ loaded_content Suits r file bytes a l = l.told a.content a.told ∙ take_all com
 
 file_admitted : (Used : List Proc → Outcome → Type 0) (Suits : List Proc → Type 0) (stop : Outcome) → ((procs : List Proc) → Suits procs → Used procs stop → ⊥)
     → (r : Reading) (file : List ℕ) → FileAdmits Suits r file → (Unread r file → ⊥) → FileGives Used r file stop → ⊥
-file_admitted Used Suits stop no r file a quiet (held.Stopped (Fault rose e)) = quiet rose
-file_admitted Used Suits stop no r file a quiet (held.Stopped (Bytes bytes l s)) =
+file_admitted Used Suits stop never r file a quiet (held.Stopped (Fault rose e)) = quiet rose
+file_admitted Used Suits stop never r file a quiet (held.Stopped (Bytes bytes l s)) =
     let P : List ℕ → Type 0 = λ b. StopsWith b stop in
     not_stopped a.content a.suited.names a.suited.procs stop a.suited.text (subst P (loaded_content Suits r file bytes a l) s)
-file_admitted Used Suits stop no r file a quiet (Taken names procs h u) =
+file_admitted Used Suits stop never r file a quiet (Taken names procs h u) =
     let P : List ℕ → Type 0 = λ b. IsAdmittedText b names procs in
     let Q : List Proc → Type 0 = λ ps. Used ps stop in
     let t : IsAdmittedText a.content names procs = subst P (loaded_content Suits r file h.bytes a h.loaded) h.admitted in
-    no a.suited.procs a.suited.suits (subst Q (one_text a.content names a.suited.names procs a.suited.procs t a.suited.text) u)
+    never a.suited.procs a.suited.suits (subst Q (one_text a.content names a.suited.names procs a.suited.procs t a.suited.text) u)
 
 compile_suits : (procs : List Proc) → CompileUses procs Done → Compiles procs
 compile_suits procs (inl (c, e)) = c

@@ -35,7 +35,7 @@ why_line (Grammar b) = grammar_line b
 abbrev pub limits : List ℕ
 limits = 1048576 ∷ 64 ∷ 1024 ∷ 256 ∷ 8192 ∷ 65536 ∷ 16777216 ∷ 262144 ∷ 255 ∷ []
 
-abbrev pub allowed : ℕ → ℕ
+unfoldable pub allowed : ℕ → ℕ
 allowed limit = get_or limits (limit - 1) 0
 
 abbrev pub limit_line : ℕ → ℕ → List ℕ

@@ -88,6 +88,7 @@ const LIMITS: [u64; 9] = [
 ];
 
 /// What a limit allows; 0 of a number that no limit has.
+#[tactic(auto, unfolding(crate::specs::Say::allowed))]
 fn allowed(limit: u8) -> u64
     ensures { result ≡ allowed limit }
 {

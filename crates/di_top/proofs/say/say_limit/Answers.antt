@@ -11,7 +11,7 @@ pub returns-in_err-put_worded-2-clause-front : goal.returns-in_err-put_worded-2-
 returns-in_err-put_worded-2-clause-front g c = on_err _ _ (front_more _ _ _ (numbered_line (codes ", allowed ") (allowed c.args.limit)) (front_then _ _ _ _ _ c.in_ok-put_worded.ensures.ok c.in_err-put_worded-2.ensures.front))
 
 pub returns-clause-ok : goal.returns-clause-ok
-returns-clause-ok g c = ok_then _ _ _ _ _ _ (gains_then _ _ _ _ _ c.in_ok-put_worded.ensures.ok c.in_ok-put_worded-2.ensures.ok) c.put_numbered.ensures.ok
+returns-clause-ok g c = rw (← c.allowed.ensures) (ok_then _ _ _ _ _ _ (gains_then _ _ _ _ _ c.in_ok-put_worded.ensures.ok c.in_ok-put_worded-2.ensures.ok) c.put_numbered.ensures.ok)
 
 pub returns-clause-front : goal.returns-clause-front
-returns-clause-front g c = err_then _ _ _ _ _ _ (gains_then _ _ _ _ _ c.in_ok-put_worded.ensures.ok c.in_ok-put_worded-2.ensures.ok) c.put_numbered.ensures.front
+returns-clause-front g c = rw (← c.allowed.ensures) (err_then _ _ _ _ _ _ (gains_then _ _ _ _ _ c.in_ok-put_worded.ensures.ok c.in_ok-put_worded-2.ensures.ok) c.put_numbered.ensures.front)
