@@ -14,7 +14,7 @@ use Rattle.net_core.specs.Networks.{directions_at, directions, gives, takes, end
 use Rattle.net_core.proofs.Counting.{all_at}
 use Rattle.net_core.proofs.Ends.{side_of, later_same, closed_by_ends}
 
-ranged : (n k : ℕ) → k < n → get_or (range_with_len 0 n) k 0 ≡ k
+pub ranged : (n k : ℕ) → k < n → get_or (range_with_len 0 n) k 0 ≡ k
 ranged n k h = get_or-range_with_len 0 n k 0 h ∙ omega arith
 
 -- the first number below n that passes

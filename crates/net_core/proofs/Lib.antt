@@ -24,4 +24,8 @@ pub mod Places
 pub mod WithNew
 pub mod Walked
 pub mod WalkOrder
+pub mod Receivers
+pub mod Listings
+pub mod WalkSteps
+pub mod WalkStates
 pub mod FirstWires

@@ -1,5 +1,6 @@
 -- Lists in which each number below n stands once: a number is found from its place, and a place from its number.
-use Rattle.std.proofs.Common.{◌≡◌, ℕ, zero, suc, ◌<◌, ◌≤◌, Bool, true, false, ◌↔◌, List, [], ◌∷◌, length, get_or, refl, sym, ap, ◌∙◌, subst, arith, inl, inr, eq-eqb, ne_eqb, ltb, lt-ltb, le-ltb}
+use Rattle.std.proofs.Common.{◌≡◌, ◌≢◌, ℕ, zero, suc, ◌+◌, ◌<◌, ◌≤◌, Bool, true, false, ◌↔◌, List, [], ◌∷◌, length, get_or, refl, sym, ap, ◌∙◌, subst, arith, inl, inr, eq-eqb, ne_eqb, ltb, lt-ltb, le-ltb, get_or-set_same, get_or-set_other}
+use Rattle.std.proofs.Math.ListN.{set}
 use Rattle.std.specs.Prelude.{nat_eq}
 use Rattle.std.specs.List.{AllByRecursion, position_or_len}
 use Rattle.std.proofs.lemmas.Bool.{cases_lt, cases_eq, false≢true, eqb-true}
@@ -65,6 +66,23 @@ place_of xs once k h =
     position_or_len_is (nat_eq (get_or xs k 0)) xs k 0 (omega arith)
     (λ j l. ne_eqb (get_or xs k 0) (get_or xs j 0) (λ e. let same = apart xs once k j h (omega arith) e in omega arith))
     (λ l. eq-eqb (get_or xs k 0) (get_or xs k 0) refl)
+
+-- a table of places, from one place to the next, and when all are written
+pub placed_more : (xs table : List ℕ) (i n : ℕ) → ((w : ℕ) → count w xs ≤ 1) → AllByRecursion (λ w. w < n) xs → i < length xs → length table ≡ n
+    → ((k : ℕ) → k < i → get_or table (get_or xs k 0) 0 ≡ k) → (k : ℕ) → k < i + 1 → get_or (set table (get_or xs i 0) i) (get_or xs k 0) 0 ≡ k
+placed_more xs table i n once below h sized before k l = elim (cases_eq (get_or xs k 0) (get_or xs i 0)) [
+  | inl e ↦ (let known : get_or xs i 0 < n = all_at (λ w. w < n) xs i below h in
+      let same = apart xs once k i (omega arith) h e in
+      ap (λ w. get_or (set table (get_or xs i 0) i) w 0) e ∙ get_or-set_same table (get_or xs i 0) i 0 (omega arith) ∙ sym same)
+  | inr ne ↦ (let other : k ≢ i = (λ e. ne (ap (λ j. get_or xs j 0) e)) in
+      get_or-set_other table (get_or xs i 0) (get_or xs k 0) i 0 ne ∙ before k (omega arith))
+]
+
+pub placed_all : (xs table : List ℕ) (i w : ℕ) → ((w : ℕ) → count w xs ≤ 1) → length xs ≤ i → ((k : ℕ) → k < i → get_or table (get_or xs k 0) 0 ≡ k)
+    → 0 < count w xs → get_or table w 0 ≡ position_or_len (nat_eq w) xs
+placed_all xs table i w once past placed h =
+    let (k, l, e) = count_at w xs h in
+    ap (λ v. get_or table v 0) (sym e) ∙ placed k (omega arith) ∙ sym (place_of xs once k l) ∙ ap (λ v. position_or_len (nat_eq v) xs) e
 
 -- numbers below n without repetition are at most n
 pub few_below : (n : ℕ) (xs : List ℕ) → AllByRecursion (λ w. w < n) xs → ((w : ℕ) → count w xs ≤ 1) → length xs ≤ n

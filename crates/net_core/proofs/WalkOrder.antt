@@ -34,6 +34,12 @@ module _ (f : ℕ → ℕ) (c : Circuit) where
   moved_inside (n ∷ ns) all zero h = moved_first n (moved_all f c ns) (slice_get c.nodes n) refl all.0
   moved_inside (n ∷ ns) all (suc k) h = moved_later n k (moved_all f c ns) (slice_get c.nodes n) refl all.0 ∙ moved_inside ns all.1 k (omega arith)
 
+  pub moved_many : (ns : List ℕ) → AllByRecursion (λ n. n < length c.nodes) ns → length (moved_all f c ns) ≡ length ns
+  moved_many [] all = refl
+  moved_many (n ∷ ns) all =
+      let (x, is) = node_at c.nodes n all.0 in
+      ap (λ o. length (moved_at f o ++ moved_all f c ns)) is ∙ ap suc (moved_many ns all.1)
+
   moved_past : (ns : List ℕ) → AllByRecursion (λ n. n < length c.nodes) ns → (k : ℕ) → length ns ≤ k → slice_get (moved_all f c ns) k ≡ None
   moved_past [] all k h = refl
   moved_past (n ∷ ns) all zero h = absurd (omega arith)
@@ -50,18 +56,41 @@ moved_same f g c fit same n (Some x) e =
     let fits = all_nodes (Fits c.wires) c.nodes n x fit e in
     ap (λ ws. Some (record { spec = x.spec; ends = ws })) (map_same f g c.wires x.ends fits.known same)
 
+moved_at_same : (f g : ℕ → ℕ) (c : Circuit) → AllByRecursion (Fits c.wires) c.nodes → ((w : ℕ) → w < c.wires → f w ≡ g w)
+    → (n : ℕ) (o : Option Node) → slice_get c.nodes n ≡ o → moved_at f o ≡ moved_at g o
+moved_at_same f g c fit same n None e = refl
+moved_at_same f g c fit same n (Some x) e =
+    let fits = all_nodes (Fits c.wires) c.nodes n x fit e in
+    ap (λ ws. record { spec = x.spec; ends = ws } ∷ []) (map_same f g c.wires x.ends fits.known same)
+
+moved_all_same : (f g : ℕ → ℕ) (c : Circuit) → AllByRecursion (Fits c.wires) c.nodes → ((w : ℕ) → w < c.wires → f w ≡ g w)
+    → (ns : List ℕ) → moved_all f c ns ≡ moved_all g c ns
+moved_all_same f g c fit same [] = refl
+moved_all_same f g c fit same (n ∷ ns) =
+    ap (λ (xs : List Node). xs ++ moved_all f c ns) (moved_at_same f g c fit same n (slice_get c.nodes n) refl)
+    ∙ ap (λ (xs : List Node). moved_at g (slice_get c.nodes n) ++ xs) (moved_all_same f g c fit same ns)
+
+-- the new network's nodes by a table of the wires' places
+pub walk_by_table : (c : Circuit) → AllByRecursion (Fits c.wires) c.nodes → (table ns : List ℕ)
+    → ((w : ℕ) → w < c.wires → get_or table w 0 ≡ position_or_len (nat_eq w) (walk_of c).numbered) → ns ≡ (walk_of c).listed
+    → moved_all (λ w. get_or table w 0) c ns ≡ (walk c).nodes
+unfolding walk
+walk_by_table c fit table ns places e =
+    ap (moved_all (λ w. get_or table w 0) c) e
+    ∙ moved_all_same (λ w. get_or table w 0) (λ w. position_or_len (nat_eq w) (walk_of c).numbered) c fit places (walk_of c).listed
+
 module _ (c : Circuit) (fit : AllByRecursion (Fits c.wires) c.nodes) (closed : IsClosed c) (some : 0 < length c.nodes) where
   abbrev end : Walk
   end = walk_of c
 
-  holds : Holds c end
+  pub holds : Holds c end
   holds = (ended c fit closed some).0
 
-  nodes_whole : (n : ℕ) → n < length c.nodes → 0 < count n end.listed
+  pub nodes_whole : (n : ℕ) → n < length c.nodes → 0 < count n end.listed
   nodes_whole = all_listed c fit closed some
 
   -- each wire has a driver, which is listed
-  wires_whole : (w : ℕ) → w < c.wires → 0 < count w end.numbered
+  pub wires_whole : (w : ℕ) → w < c.wires → 0 < count w end.numbered
   wires_whole w h =
       let at = gives_located c fit closed in
       let n = end_node (gives c) c w in let p = end_port (gives c) c w in
@@ -93,6 +122,10 @@ module _ (c : Circuit) (fit : AllByRecursion (Fits c.wires) c.nodes) (closed : I
         let sized = places.sized (length c.nodes) end.listed holds.there holds.listed_once nodes_whole in
         moved_past number c end.listed holds.there (node n) (omega arith) ∙ ap (option_map (moved wire)) (sym (slice_get_past c.nodes n past))
   ]
+
+  pub walk_many : length (walk c).nodes ≡ length c.nodes
+  unfolding walk
+  walk_many = moved_many number c end.listed holds.there ∙ places.sized (length c.nodes) end.listed holds.there holds.listed_once nodes_whole
 
   pub walk_reorders : Reorders c (walk c)
   unfolding walk
@@ -133,6 +166,10 @@ walk_empty c e = none_moved (λ w. position_or_len (nat_eq w) (walk_of c).number
 pub walk_wires : (c : Circuit) → (walk c).wires ≡ c.wires
 unfolding walk
 walk_wires c = refl
+
+-- the new network from a list of its nodes
+pub walk_as : (c : Circuit) (xs : List Node) → xs ≡ (walk c).nodes → walk c ≡ record { nodes = xs; wires = c.wires }
+walk_as c xs e = λ i. record { nodes = sym e i; wires = walk_wires c i }
 
 slice_drop : (xs : List Node) (k : ℕ) → slice_get (drop 1 xs) k ≡ slice_get xs (suc k)
 slice_drop [] k = refl

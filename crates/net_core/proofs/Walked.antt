@@ -9,7 +9,7 @@ use Rattle.std.proofs.lemmas.Option.{none-some, same_Some, get_or_from_slice_get
 use Rattle.net_core.specs.Specs.{outs_of}
 use Rattle.net_core.specs.Wiring.{Node, Circuit, Fits, IsClosed, count, picked}
 use Rattle.net_core.specs.Networks.{directions_at, gives, takes, end_of, end_at, end_node}
-use Rattle.net_core.specs.Walk.{Walk, is_in, with_new, output_wires, list_node, source_at, or_else, next_left, step_at, step, goes_on, walked, ends_at, walk_of}
+use Rattle.net_core.specs.Walk.{Walk, is_in, with_new, output_wires, list_node, source_at, or_else, next_left, step_at, step, goes_on, walked, ends_at, outset, walk_of}
 use Rattle.net_core.proofs.Counting.{count_nil, count_same, count_other, picked_all, all_at}
 use Rattle.net_core.proofs.Ends.{later_same}
 use Rattle.net_core.proofs.Found.{first_below, port_within, all_nodes, takes_located}
@@ -176,7 +176,7 @@ module _ (c : Circuit) (fit : AllByRecursion (Fits c.wires) c.nodes) where
   listed_more n w new = rw new (omega (arith, length-append w.listed (n ∷ [])))
 
   module _ (closed : IsClosed c) where
-    receiver_there : (v : ℕ) → v < c.wires → end_node (takes c) c v < length c.nodes
+    pub receiver_there : (v : ℕ) → v < c.wires → end_node (takes c) c v < length c.nodes
     receiver_there v h = let l = takes_located c fit closed in (l.there (end_node (takes c) c v) _ (l.real v h)).0
 
     visits : (w : Walk) (v : ℕ) → Holds c w → slice_get w.numbered w.visited ≡ Some v → Holds c (record w { visited = suc w.visited }) × (v < c.wires)
@@ -195,7 +195,7 @@ module _ (c : Circuit) (fit : AllByRecursion (Fits c.wires) c.nodes) where
           subst (λ u. u < c.wires) (get_or_from_slice_get w.numbered w.visited v 0 e) (all_at (λ u. u < c.wires) w.numbered w.visited h.known l),
         )
 
-    steps : (w : Walk) → Holds c w → (a : Option ℕ) → slice_get w.numbered w.visited ≡ a → (o : Option ℕ) → next_left c w.listed ≡ o
+    pub steps : (w : Walk) → Holds c w → (a : Option ℕ) → slice_get w.numbered w.visited ≡ a → (o : Option ℕ) → next_left c w.listed ≡ o
         → (v : Walk) → step_at c w a o ≡ Some v → Holds c v × (suc (progress w) ≤ progress v)
     steps w h (Some x) e o f v is =
         let (seen, known) = visits w x h e in
@@ -226,7 +226,7 @@ module _ (c : Circuit) (fit : AllByRecursion (Fits c.wires) c.nodes) where
             let (holds, grows) = steps w h (slice_get w.numbered w.visited) refl (next_left c w.listed) refl v e in
             f v holds (omega arith)
 
-    begun : 0 < length c.nodes → Holds c (record { listed = 0 ∷ []; numbered = with_new [] (ends_at (slice_get c.nodes 0)); visited = 0 })
+    pub begun : 0 < length c.nodes → Holds c (outset c)
     begun some = record {
       first = refl;
       some = omega arith;
@@ -247,7 +247,7 @@ module _ (c : Circuit) (fit : AllByRecursion (Fits c.wires) c.nodes) where
 
     pub ended : 0 < length c.nodes → Holds c (walk_of c) × (step c (walk_of c) ≡ None)
     ended some =
-        ends (c.wires + length c.nodes) (record { listed = 0 ∷ []; numbered = with_new [] (ends_at (slice_get c.nodes 0)); visited = 0 }) (begun some) (omega arith)
+        ends (c.wires + length c.nodes) (outset c) (begun some) (omega arith)
 
     stopped : (w : Walk) (a o : Option ℕ) → step_at c w a o ≡ None → o ≡ None
     stopped w (Some x) o e = absurd (none-some _ (sym e))

@@ -81,9 +81,13 @@ abbrev pub ends_at : Option Node → List ℕ
 ends_at None = []
 ends_at (Some x) = x.ends
 
--- the whole walk: the environment is first, and the wires at its ports have the first numbers in port order
+-- the walk before its first step: the environment is listed, and the wires at its ports have the first numbers in port order
+abbrev pub outset : Circuit → Walk
+outset c = record { listed = 0 ∷ []; numbered = with_new [] (ends_at (slice_get c.nodes 0)); visited = 0 }
+
+-- the whole walk
 abbrev pub walk_of : Circuit → Walk
-walk_of c = walked c (c.wires + length c.nodes) (record { listed = 0 ∷ []; numbered = with_new [] (ends_at (slice_get c.nodes 0)); visited = 0 })
+walk_of c = walked c (c.wires + length c.nodes) (outset c)
 
 abbrev pub moved_at : (ℕ → ℕ) → Option Node → List Node
 moved_at f None = []

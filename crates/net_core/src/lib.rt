@@ -2,9 +2,17 @@
 #![tactic(auto)]
 
 mod laws;
+mod listing;
 mod net;
+mod ordered;
+mod renumber;
 mod spec;
+#[cfg(test)]
+mod tests;
+mod walk;
 
 pub use laws::{closed_law, ports_law, walk_law};
 pub use net::{Net, NetBuilder, Node, OpenPort, closed};
+pub use ordered::order;
+pub use renumber::moved_node;
 pub use spec::{NodeSpec, copy_spec, directions, same_spec};

@@ -248,6 +248,19 @@ impl Net {
         }
         Ok(Net { nodes, wires, ends })
     }
+
+    /// The closed network with these nodes in the place of its own, where each wire again has its two ends.
+    pub(crate) fn with_nodes(self, nodes: Vec<Node>) -> Net
+        requires closed { IsClosed self }
+        requires some { 0 < length nodes.items }
+        requires few { length nodes.items < 2 ^ 32 }
+        requires fit { AllByRecursion (Fits self.wires) nodes.items }
+        requires still_closed { IsClosed (record self { nodes = nodes.items }) }
+        ensures { result ≡ record self { nodes = nodes.items } }
+    {
+        let Net { wires, ends, .. } = self;
+        Net { nodes, wires, ends }
+    }
 }
 
 /// The least wire that has not one driver and one receiver, or None where each wire has.
