@@ -6,7 +6,6 @@ ghost use Rattle.di_grammar.specs.Rules.{faults_of, number_of, other_process, an
 use crate::alternate::{second_rule, third_rule};
 use crate::choices::fourth_rule;
 use crate::fault::Fault;
-use crate::grant::is_grant;
 use crate::granting::{eighth_rule, ninth_rule};
 use crate::overlaps::sixth_rule;
 use crate::turned::seventh_rule;
@@ -123,9 +122,9 @@ fn fault_of(rule: Rule, procs: &[Proc], number: u32, process: &Proc) -> Option<F
         Rule::Bursts => first_rule(process),
         Rule::Neighbours => second_rule(process),
         Rule::Rounds => third_rule(process),
-        Rule::Choices => fourth_rule(process, is_grant(process)),
-        Rule::Twins => fifth_rule(process, is_grant(process)),
-        Rule::Overlaps => sixth_rule(process, is_grant(process)),
+        Rule::Choices => fourth_rule(process),
+        Rule::Twins => fifth_rule(process),
+        Rule::Overlaps => sixth_rule(process),
         Rule::Directions => seventh_rule(procs, process),
         Rule::Granted => eighth_rule(process),
         Rule::Homes => ninth_rule(procs, number, process),
