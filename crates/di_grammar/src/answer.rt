@@ -72,7 +72,8 @@ impl Rule {
 /// Whether a command is admitted: the least rule that it breaks, in the least process and there at
 /// the least place, and `None` where it breaks none.
 ///
-/// It takes no memory. Its time is at most the square of the number of places of the command.
+/// It takes no memory. Its time grows at most with the square of the places of the command: about a
+/// second for 8,192 places, the most that a command has.
 pub fn check(command: &Command) -> Option<Broken>
     ensures least { result ≡ broken command.now.procs }
     ensures none { result ≡ None → Admitted command.now.procs }
