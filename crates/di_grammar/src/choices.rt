@@ -3,21 +3,25 @@ ghost use Rattle.cmd_tree.specs.Tree.{places_of, places_in};
 ghost use Rattle.cmd_tree.specs.Limits.{of_part, places_of_proc};
 ghost use Rattle.cmd_tree.specs.View.{item_of};
 ghost use Rattle.di_grammar.specs.Least.{least};
-ghost use Rattle.di_grammar.specs.Rules.{begins_with_output, ends_with_both, bad_choice, bad_choices, bad_choices_in, body_place, is_grant, rule_4};
+ghost use Rattle.di_grammar.specs.Rules.{begins_with_output, ends_with_both, bad_choice, bad_choices, bad_choices_in, body_place, rule_4};
 
 use crate::ends::{Dirs, Side, item_dirs};
 use crate::fault::{Fault, fault_at, lesser};
+use crate::grant::is_grant;
 use crate::places::{item_places, part_places, seq_places};
 use cmd_tree::{Item, Proc, Seq};
 
 /// The least fault of a process by the fourth rule: each alternative of a choice begins with
 /// inputs, and all end with one direction. A grant has no such fault.
-pub fn fourth_rule(process: &Proc, grant: bool) -> Option<Fault>
-    requires fits { places_of_proc process.now + 1 < 2 ^ 32 }
-    requires granted { grant ≡ is_grant process.now }
+pub fn fourth_rule(process: &Proc) -> Option<Fault>
+    requires { places_of_proc process.now + 1 < 2 ^ 32 }
     ensures { result ≡ least (rule_4 process.now) }
 {
-    if grant { None } else { bad_choices(process) }
+    if is_grant(process) {
+        None
+    } else {
+        bad_choices(process)
+    }
 }
 
 fn bad_choices(process: &Proc) -> Option<Fault>

@@ -5,21 +5,25 @@ ghost use Rattle.cmd_tree.specs.View.{item_of};
 ghost use Rattle.di_grammar.specs.Least.{lesser, least};
 ghost use Rattle.di_grammar.specs.Bursts.{dir_of, bursts_of, bursts_in};
 ghost use Rattle.di_grammar.specs.Ends.{is_output};
-ghost use Rattle.di_grammar.specs.Rules.{overlaps, overlapping, bursts_of_proc, is_grant, rule_6};
+ghost use Rattle.di_grammar.specs.Rules.{overlaps, overlapping, bursts_of_proc, rule_6};
 
 use crate::fault::{Fault, fault_at, fault_if};
+use crate::grant::is_grant;
 use crate::places::{dir_of, same_dir};
 use crate::search::Search;
 use crate::sets::overlap;
 use cmd_tree::{Dir, Item, Mark, Proc, Seq};
 
 /// The least fault of a process by the sixth rule: two input bursts are equal or disjoint as sets.
-pub fn sixth_rule(process: &Proc, grant: bool) -> Option<Fault>
-    requires fits { places_of_proc process.now + 1 < 2 ^ 32 }
-    requires granted { grant ≡ is_grant process.now }
+pub fn sixth_rule(process: &Proc) -> Option<Fault>
+    requires { places_of_proc process.now + 1 < 2 ^ 32 }
     ensures { result ≡ least (rule_6 process.now) }
 {
-    if grant { None } else { overlapping(process) }
+    if is_grant(process) {
+        None
+    } else {
+        overlapping(process)
+    }
 }
 
 fn overlapping(process: &Proc) -> Option<Fault>

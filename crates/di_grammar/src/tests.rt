@@ -3,10 +3,14 @@ ghost use Rattle.cmd_tree.specs.Tree.{places_of, places_in};
 ghost use Rattle.cmd_tree.specs.Limits.{places_of_proc};
 ghost use Rattle.cmd_tree.specs.View.{item_of, seq_of};
 
+use crate::alternate::{second_rule, third_rule};
 use crate::answer::{Broken, check, first_broken};
+use crate::choices::fourth_rule;
 use crate::fault::Fault;
 use crate::grant::is_grant;
-use crate::{fifth_rule, first_rule, fourth_rule, second_rule, sixth_rule, third_rule};
+use crate::overlaps::sixth_rule;
+use crate::twins::fifth_rule;
+use crate::uneven::first_rule;
 use cmd_tree::{Command, Dir, Item, Mark, Name, NameSet, Proc, Seq, Sym};
 use sqlite_items::Items;
 use std::alloc::{AllocError, Global};
@@ -103,7 +107,7 @@ fn decides_how_choices_begin(rt: HostRuntime) -> Result<(), Fail> {
     let short = vec![in alloc; give(alloc, 4)?]?;
     let gives_first = choice(alloc, long, short)?;
     let process = repeating(vec![in alloc; take(alloc, 0)?, gives_first]?);
-    let found = fourth_rule(&process, is_grant(&process));
+    let found = fourth_rule(&process);
     assert_eq!(rt; found, fault(2, 0, 2));
     Ok(())
 }
@@ -116,7 +120,7 @@ fn lets_the_choice_of_a_grant_give(rt: HostRuntime) -> Result<(), Fail> {
     let granting = choice(alloc, first, second)?;
     let process = repeating(vec![in alloc; take(alloc, 0)?, granting]?);
     assert_eq!(rt; is_grant(&process), true);
-    assert_eq!(rt; fourth_rule(&process, true), None);
+    assert_eq!(rt; fourth_rule(&process), None);
     Ok(())
 }
 
@@ -126,7 +130,7 @@ fn decides_equal_first_bursts(rt: HostRuntime) -> Result<(), Fail> {
     let first = vec![in alloc; take(alloc, 0)?, give(alloc, 1)?]?;
     let second = vec![in alloc; take(alloc, 0)?, give(alloc, 2)?]?;
     let process = repeating(vec![in alloc; choice(alloc, first, second)?]?);
-    let found = fifth_rule(&process, is_grant(&process));
+    let found = fifth_rule(&process);
     assert_eq!(rt; found, fault(3, 0, 1));
     Ok(())
 }
@@ -141,7 +145,7 @@ fn decides_overlaps_of_input_bursts(rt: HostRuntime) -> Result<(), Fail> {
         both,
         give(alloc, 3)?,
     ]?);
-    let found = sixth_rule(&process, is_grant(&process));
+    let found = sixth_rule(&process);
     assert_eq!(rt; found, fault(3, 0, 1));
     Ok(())
 }

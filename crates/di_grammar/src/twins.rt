@@ -4,21 +4,25 @@ ghost use Rattle.cmd_tree.specs.Limits.{of_part, places_of_proc};
 ghost use Rattle.cmd_tree.specs.View.{item_of, seqs_of};
 ghost use Rattle.di_grammar.specs.Least.{lesser, least};
 ghost use Rattle.di_grammar.specs.Bursts.{firsts_of, firsts_in, firsts_among};
-ghost use Rattle.di_grammar.specs.Rules.{twins, twins_of, twins_among, equal_choices, equal_choices_in, body_place, is_grant, rule_5};
+ghost use Rattle.di_grammar.specs.Rules.{twins, twins_of, twins_among, equal_choices, equal_choices_in, body_place, rule_5};
 
 use crate::fault::{Fault, fault_at, fault_if};
+use crate::grant::is_grant;
 use crate::search::Search;
 use crate::sets::same_set;
 use cmd_tree::{Item, Mark, Proc, Seq};
 
 /// The least fault of a process by the fifth rule: the first bursts of different alternatives of
 /// one choice differ as sets.
-pub fn fifth_rule(process: &Proc, grant: bool) -> Option<Fault>
-    requires fits { places_of_proc process.now + 1 < 2 ^ 32 }
-    requires granted { grant ≡ is_grant process.now }
+pub fn fifth_rule(process: &Proc) -> Option<Fault>
+    requires { places_of_proc process.now + 1 < 2 ^ 32 }
     ensures { result ≡ least (rule_5 process.now) }
 {
-    if grant { None } else { equal_choices(process) }
+    if is_grant(process) {
+        None
+    } else {
+        equal_choices(process)
+    }
 }
 
 fn equal_choices(process: &Proc) -> Option<Fault>
