@@ -13,7 +13,7 @@ use Rattle.di_top.specs.declared.outcome.Why.TheVariants.{NotThisForm}
 use Rattle.di_top.specs.Forms.{TakesThenGives, Compiles, IsFormed}
 use Rattle.di_top.specs.FormNets.{form_net}
 use Rattle.di_top.specs.NetText.{net_text}
-use Rattle.di_top.specs.Requests.{Request, CompileWide, Check}
+use Rattle.di_top.specs.Requests.{CompileWide, Check}
 use Rattle.di_top.specs.Calls.{Reading, Loaded}
 use Rattle.di_top.specs.CommandFiles.{command_cap, StopsWith, FileStops, Bytes, FileHolds, FileGives, Stopped, Taken}
 use Rattle.di_top.specs.CompileForm.{Compiled, CompiledTo}
@@ -76,6 +76,10 @@ bytes_stop r file bytes stop l (inr s) = (stops_are_stops bytes stop s, inr (Byt
 pub if_ok : {A E : Type 0} (r : Result A E) (P Q : A → Type 0) → ((x : A) → P x → Q x) → IfOk r P → IfOk r Q
 if_ok (Ok x) P Q f h = f x h
 if_ok (Err e) P Q f h = h
+
+pub on_err : {A E : Type 0} (r : Result A E) (P Q : E → Type 0) → ((x : E) → P x → Q x) → IfErr r P → IfErr r Q
+on_err (Ok x) P Q f h = h
+on_err (Err e) P Q f h = f e h
 
 pub if_err : {A E : Type 0} (r : Result A E) (P Q : E → Type 0) → ((x : E) → P x → Q x) → IsErrAnd r P → IfErr r Q
 if_err (Ok x) P Q f h = absurd h

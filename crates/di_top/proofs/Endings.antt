@@ -1,12 +1,10 @@
 -- What is promised of a call, from the way in which it ended.
-use Rattle.std.proofs.Common.{◌≡◌, ◌≢◌, ap, ◌<◌, ◌≤◌, ◌+◌, ◌-◌, ◌^◌, ℕ, List, [], Option, Some, None, arith, rules, refl, sym, ◌∙◌, subst, inl, inr, take, length, min}
-use Rattle.std.proofs.lemmas.List.{take_all, length-take}
-use Rattle.std.specs.Prelude.{◌⊎◌, ⊤}
-use Rattle.di_io.specs.Faults.{Rose}
+use Rattle.std.proofs.Common.{◌≡◌, ◌≢◌, ◌<◌, ℕ, List, Option, Some, None, arith, refl, sym, ◌∙◌, subst, inl, inr}
+use Rattle.std.proofs.lemmas.List.{take_all}
+use Rattle.std.specs.Prelude.{⊤}
 use Rattle.cmd_tree.specs.declared.tree.Proc.{Proc}
 use Rattle.di_top.specs.declared.outcome.Outcome.{Outcome}
-use Rattle.di_top.specs.declared.outcome.Outcome.TheVariants.{Done, Refused, Usage, ReadFault, WriteFault, NoMemory}
-use Rattle.di_top.specs.declared.outcome.Why.TheVariants.{NotThisForm}
+use Rattle.di_top.specs.declared.outcome.Outcome.TheVariants.{Done, Usage, WriteFault, NoMemory}
 use Rattle.di_top.specs.Requests.{Request, CompileWide, Check, files_of}
 use Rattle.di_top.specs.Calls.{Reading, Change, Loaded, Unread, Quiet, Tells, Failed, Unchanged, Gained, GainedFront}
 use Rattle.di_top.specs.Forms.{Compiles}
@@ -18,7 +16,7 @@ use Rattle.di_top.specs.Outcomes.{Gives, Prints, Admits}
 use Rattle.di_top.specs.Plans.{IsStop}
 use Rattle.di_top.specs.Say.{say_line}
 use Rattle.di_top.specs.Ends.{Spoke, Spoken, Broken, Ends, Finished, Stopped, Cut}
-use Rattle.di_top.specs.Promised.{Promise, Printed, CutText, CutLine, FaultTable, CanRise}
+use Rattle.di_top.specs.Promised.{Promise, CutLine, CanRise}
 use Rattle.di_top.specs.Headline.{Faultless, Headline, Appended}
 use Rattle.di_top.proofs.Stops.{loaded_whole, not_stopped, one_text, stops_are_stops}
 use Rattle.di_top.proofs.Compiling.{compiles}

@@ -1,5 +1,5 @@
 -- The network of a text of the form: its nodes fit, it is closed and clean, its components are kinds, and it is correct.
-use Rattle.std.proofs.Common.{◌≡◌, ◌↔◌, ℕ, zero, suc, ◌+◌, ◌<◌, ◌≤◌, List, [], ◌∷◌, length, refl, sym, subst, arith}
+use Rattle.std.proofs.Common.{◌≡◌, ◌↔◌, ℕ, zero, suc, ◌+◌, ◌<◌, ◌≤◌, List, [], ◌∷◌, refl, sym, subst, arith}
 use Rattle.std.specs.List.{AllByRecursion}
 use Rattle.cmd_tree.specs.declared.command.Command.{Command}
 use Rattle.cmd_tree.specs.Meaning.{Trace}
@@ -8,8 +8,8 @@ use Rattle.basic_kinds.specs.declared.kind.Kind.TheVariants.{Wire, Fork, C}
 use Rattle.basic_kinds.specs.KindTraces.{again, all_then_all}
 use Rattle.net_core.specs.declared.spec.NodeSpec.TheVariants.{Kind as Basic, Cmd}
 use Rattle.net_core.specs.Specs.{sides, outs_of, IsFormed, May}
-use Rattle.net_core.specs.Wiring.{Fits, IsClosed}
-use Rattle.net_core.specs.Networks.{IsBasic, IsClean, Correct}
+use Rattle.net_core.specs.Wiring.{Fits}
+use Rattle.net_core.specs.Networks.{IsBasic, Correct}
 use Rattle.cmd_tree.specs.Rounds.{Rounds}
 use Rattle.di_top.specs.Forms.{TakesThenGives}
 use Rattle.di_top.specs.FormNets.{one_net, form_net}

@@ -70,7 +70,7 @@ names_are c n m form =
     let marks : IsNumbered 0 (form_marks n m) (length c.names) = subst P (ap marks_of_all form.same ∙ marks_are n m) c.valid.numbered in
     let low : 0 + n ≡ n = omega arith in
     let outs = subst (λ (j : ℕ). IsNumbered j (map given (range_with_len n m) ++ []) (length c.names)) low
-        (past_range taken (λ p. refl) 0 n (map given (range_with_len n m) ++ []) (length c.names) marks) in
+    (past_range taken (λ p. refl) 0 n (map given (range_with_len n m) ++ []) (length c.names) marks) in
     past_range given (λ p. refl) n m [] (length c.names) outs
 
 -- the symbols of a command of the form are its inputs and then its outputs

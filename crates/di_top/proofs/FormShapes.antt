@@ -1,8 +1,8 @@
 -- The network of a text of the form, by its numbers of inputs and outputs.
-use Rattle.std.proofs.Common.{◌≡◌, ◌≢◌, ℕ, zero, suc, ◌+◌, ◌<◌, ◌≤◌, List, refl, sym, ap, subst, arith}
+use Rattle.std.proofs.Common.{◌≡◌, ◌≢◌, ℕ, zero, suc, ◌+◌, ◌≤◌, refl, ap, subst, arith}
 use Rattle.std.specs.List.{AllByRecursion}
 use Rattle.cmd_tree.specs.declared.command.Command.{Command}
-use Rattle.basic_kinds.specs.declared.kind.Kind.TheVariants.{Wire, Fork, C}
+use Rattle.basic_kinds.specs.declared.kind.Kind.TheVariants.{Fork, C}
 use Rattle.net_core.specs.Wiring.{Fits, Circuit}
 use Rattle.di_top.specs.declared.form.Form.{Form}
 use Rattle.di_top.specs.Forms.{IsFormed}

@@ -1,15 +1,13 @@
 -- The parts of a netlist's text, one after another.
-use Rattle.std.proofs.Common.{◌≡◌, ◌<◌, ◌≤◌, ◌+◌, ◌-◌, ℕ, suc, Bool, List, [], ◌∷◌, ◌++◌, length, get_or, drop, take, map, ap, add-one, drop-cons, arith, refl, sym, subst, ◌∙◌, zero, true, false, replicate, length-append}
-use Rattle.std.proofs.lemmas.List.{drop_all, take_all, length-replicate}
+use Rattle.std.proofs.Common.{◌≡◌, ◌<◌, ◌≤◌, ◌+◌, ◌-◌, ℕ, suc, Bool, List, [], ◌∷◌, ◌++◌, length, get_or, drop, take, map, ap, add-one, drop-cons, arith, refl, sym, subst, ◌∙◌}
+use Rattle.std.proofs.lemmas.List.{take_all}
 use Rattle.std.proofs.lemmas.List.FromFn.{get_or-map-range_with_len, length-map-range_with_len}
 use Rattle.std.specs.List.{AllByRecursion, range_with_len}
 use Rattle.cmd_tree.specs.declared.command.Command.{Command}
 use Rattle.cmd_tree.specs.Limits.{marks_of_all}
-use Rattle.basic_kinds.specs.declared.kind.Kind.{Kind}
-use Rattle.basic_kinds.specs.Kinds.{inputs_of, outputs_of}
 use Rattle.net_core.specs.declared.spec.NodeSpec.{NodeSpec}
 use Rattle.net_core.specs.declared.spec.NodeSpec.TheVariants.{Cmd}
-use Rattle.net_core.specs.Specs.{gives_symbol, sides, outs_of}
+use Rattle.net_core.specs.Specs.{gives_symbol, outs_of}
 use Rattle.net_core.specs.Wiring.{Node, Fits}
 use Rattle.di_top.specs.NetText.{numbers_text, crossings_text, nodes_text, node_text, ports_text, nodes_net_text, net_text_of, head_text}
 use Rattle.di_top.specs.Netlists.{IsWhole, first_outs, port_line, number_text, crossing_text}

@@ -1,5 +1,5 @@
 -- What stops a command file, and what it gives, exclude one another; bytes that were loaded of an admitted text are all.
-use Rattle.std.proofs.Common.{◌≡◌, ◌≢◌, ℕ, ◌<◌, ◌≤◌, List, Option, Some, None, refl, sym, ap, ◌∙◌, subst, inl, inr, arith, take, length, min}
+use Rattle.std.proofs.Common.{◌≡◌, ℕ, ◌≤◌, List, Option, Some, None, refl, sym, ap, ◌∙◌, subst, inl, inr, arith, take, length}
 use Rattle.std.specs.Prelude.{◌⊎◌, option_map}
 use Rattle.std.specs.Option.{IfSome}
 use Rattle.std.proofs.lemmas.List.{take_all, length-take}
@@ -8,13 +8,13 @@ use Rattle.cmd_text.specs.declared.file.Sentence.{Sentence}
 use Rattle.cmd_text.specs.declared.file.Refusal.{Refusal}
 use Rattle.cmd_text.specs.declared.file.Refusal.TheVariants as text
 use Rattle.cmd_text.specs.Fault as faults
-use Rattle.cmd_text.specs.Source.{IsTextOfBytes, IsShallowText, IsFaultOfBytes}
+use Rattle.cmd_text.specs.Source.{IsFaultOfBytes}
 use Rattle.cmd_text.specs.ScanView.{fault_of}
 use Rattle.di_grammar.specs.declared.answer.Broken.{Broken}
 use Rattle.di_grammar.specs.Rules.{broken, Admitted}
 use Rattle.di_grammar.proofs.Answering.{admitted_none}
 use Rattle.di_top.specs.declared.outcome.Outcome.{Outcome}
-use Rattle.di_top.specs.declared.outcome.Outcome.TheVariants.{Done, Refused, NoMemory, Limit}
+use Rattle.di_top.specs.declared.outcome.Outcome.TheVariants.{Refused, NoMemory, Limit}
 use Rattle.di_top.specs.declared.outcome.Why.TheVariants as why
 use Rattle.di_top.specs.declared.source.SourceRefusal.{SourceRefusal}
 use Rattle.di_top.specs.declared.source.SourceRefusal.TheVariants as source
@@ -46,10 +46,10 @@ source_stops bytes names ss (source.TooManyProcs n) f h = inr (Refuses (spec.Too
 source_stops bytes names ss (source.TooManyPlaces n) f h = inr (Refuses (spec.TooManyPlaces n) (source_is bytes names ss (spec.TooManyPlaces n) f h) refl)
 source_stops bytes names ss source.NoMemory f h = inl refl
 
-pub grammar_stops : (bytes : List ℕ) (names : List (List ℕ)) (ss : List Sentence) (procs : List Proc) (b : Broken) → IsFileOf bytes names ss
-    → sourced names ss ≡ Main names procs → broken procs ≡ Some b → StopsWith bytes (Refused (why.Grammar b))
-grammar_stops bytes names ss procs b f e h =
-    Refuses (Main names procs) (source_is bytes names ss (Main names procs) f e) (ap (option_map (λ c. Refused (why.Grammar c))) h)
+pub grammar_stops : (bytes : List ℕ) (names all : List (List ℕ)) (ss : List Sentence) (procs : List Proc) (b : Broken) → IsFileOf bytes all ss
+    → sourced all ss ≡ Main names procs → broken procs ≡ Some b → StopsWith bytes (Refused (why.Grammar b))
+grammar_stops bytes names all ss procs b f e h =
+    Refuses (Main names procs) (source_is bytes all ss (Main names procs) f e) (ap (option_map (λ c. Refused (why.Grammar c))) h)
 
 pub admitted_text : (bytes : List ℕ) (names all : List (List ℕ)) (ss : List Sentence) (procs : List Proc) → IsFileOf bytes all ss
     → sourced all ss ≡ Main names procs → Admitted procs → IsAdmittedText bytes names procs

@@ -1,5 +1,5 @@
 -- What a call read from a shelf, and what it did to a sink.
-use Rattle.std.specs.Prelude.{◌≡◌, ℕ, ◌≤◌, List, ◌++◌, Option, Some, length, take}
+use Rattle.std.specs.Prelude.{◌≡◌, ℕ, ◌≤◌, List, Option, Some, length, take}
 use Rattle.std.specs.List.{AllByRecursion}
 use Rattle.di_io.specs.Faults.{Rose}
 use Rattle.di_io.specs.Written.{Gains, GainsFront}

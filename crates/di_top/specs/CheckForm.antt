@@ -20,7 +20,7 @@ abbrev pub CheckAdmits : Reading → List ℕ → Type 0
 CheckAdmits r file = FileAdmits (λ procs. ⊤) r file
 
 abbrev pub counts_text : Counts → List ℕ
-counts_text c = 
+counts_text c =
     codes "admitted\n" ++ numbered_line (codes "processes ") c.processes ++ numbered_line (codes "symbols ") c.symbols
     ++ numbered_line (codes "places ") c.places
 

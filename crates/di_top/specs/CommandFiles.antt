@@ -1,6 +1,6 @@
 -- What a command file is to each form of words that takes the command of `main`: it stops the call, or gives an
 -- admitted command.
-use Rattle.std.specs.Prelude.{◌≡◌, ℕ, ◌≤◌, ◌<◌, List, Option, Some, None, option_map, length}
+use Rattle.std.specs.Prelude.{◌≡◌, ℕ, ◌≤◌, ◌<◌, List, Option, Some, option_map, length}
 use Rattle.cmd_tree.specs.declared.tree.Proc.{Proc}
 use Rattle.cmd_text.specs.declared.file.Refusal.{Refusal}
 use Rattle.cmd_text.specs.declared.file.Refusal.TheVariants as text

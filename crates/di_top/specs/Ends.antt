@@ -1,5 +1,5 @@
 -- The ways in which a call ends. What is promised of a call follows from them.
-use Rattle.std.specs.Prelude.{◌≡◌, ◌≢◌, ℕ, List, Option}
+use Rattle.std.specs.Prelude.{◌≡◌, ℕ, List, Option}
 use Rattle.di_top.specs.declared.outcome.Outcome.{Outcome}
 use Rattle.di_top.specs.declared.outcome.Outcome.TheVariants.{Done, WriteFault}
 use Rattle.di_top.specs.Requests.{Request}

@@ -1,6 +1,5 @@
 -- What is needed of a network to print it, and the lines of its text one by one.
 use Rattle.std.specs.Prelude.{◌≡◌, ℕ, Bool, List, [], ◌∷◌, ◌++◌, length, codes, decimal}
-use Rattle.net_core.specs.declared.spec.NodeSpec.{NodeSpec}
 use Rattle.net_core.specs.Specs.{outs_of, IsFormed}
 use Rattle.net_core.specs.Wiring.{Node}
 use Rattle.basic_kinds.specs.declared.shape.Shape.{Shape}

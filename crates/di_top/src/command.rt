@@ -17,11 +17,7 @@ const MOST_BYTES: usize = 1_048_576;
 
 /// The admitted command in a file. One byte more than a file may have is loaded, so that a longer one is
 /// seen to be longer.
-pub fn load_command<F: Shelf>(
-    alloc: Global,
-    file: &str,
-    shelf: &mut F,
-) -> Result<Command, Outcome>
+pub fn load_command<F: Shelf>(alloc: Global, file: &str, shelf: &mut F) -> Result<Command, Outcome>
     ensures ok { IfOk result (λ command. FileHolds (reading F.content F.faults shelf.old shelf.new) file.now command.names command.procs) }
     ensures stop { IfErr result (λ stop. IsStop stop
         × ((stop ≡ Outcome.NoMemory) ⊎ FileStops (reading F.content F.faults shelf.old shelf.new) file.now stop)) }

@@ -5,7 +5,7 @@ ghost use Rattle.cmd_tree.specs.Limits.{places_of_all};
 ghost use Rattle.cmd_tree.specs.Tree.{places_of};
 ghost use Rattle.di_top.specs.Forms.{TakesThenGives, Compiles, IsFormed, BodyOf, BurstsOf, mark_of};
 
-use cmd_tree::{Command, Dir, Item, Mark, Proc, Seq, Sym};
+use cmd_tree::{Command, Dir, Item, Mark, Proc, Seq};
 
 /// A command that takes all its inputs and then gives all its outputs, again and again, with how many it has
 /// of each.
@@ -76,13 +76,20 @@ fn is_row(marks: &[Mark], from: usize, dir: Dir) -> bool
     ensures other { result ≡ false → marks.now ≡ map (mark_of dir) (range_with_len from (length marks.now)) → ⊥ }
 {
     for (index, mark) in marks.iter().enumerate() {
-        let next = Mark {
-            sym: Sym((from + index) as u32),
-            dir,
-        };
-        if *mark != next {
+        if !is_mark(*mark, (from + index) as u32, dir) {
             return false;
         }
     }
     true
+}
+
+fn is_mark(mark: Mark, symbol: u32, dir: Dir) -> bool
+    ensures same { result ≡ true → mark ≡ mark_of dir symbol }
+    ensures other { result ≡ false → mark ≡ mark_of dir symbol → ⊥ }
+{
+    let same_dir = match (mark.dir, dir) {
+        (Dir::Input, Dir::Input) | (Dir::Output, Dir::Output) => true,
+        (Dir::Input, Dir::Output) | (Dir::Output, Dir::Input) => false,
+    };
+    same_dir && mark.sym.0 == symbol
 }

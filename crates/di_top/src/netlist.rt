@@ -7,8 +7,8 @@ ghost use Rattle.di_io.specs.Written.{Gains, GainsFront};
 ghost use Rattle.di_top.specs.NetText.{net_text, net_text_of, ports_text, nodes_text, node_text, kind_text, numbers_text, crossings_text, mark_sign};
 ghost use Rattle.di_top.specs.Netlists.{IsWhole, first_outs, port_line, component_line, number_text, crossing_text, shape_text};
 
-use basic_kinds::{Kind, Shape, ports};
 use crate::decimal::put_decimal;
+use basic_kinds::{Kind, Shape, ports};
 use cmd_text::put_command;
 use cmd_tree::{Command, Name};
 use di_io::{PutFault, Sink};

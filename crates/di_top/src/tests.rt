@@ -264,54 +264,24 @@ fn checks_commands(rt: HostRuntime) -> Result<(), Fail> {
 fn refuses_texts(rt: HostRuntime) -> Result<(), Fail> {
     let alloc = rt.alloc();
     let rows = [
-        (
-            "",
-            "",
-            "refused text at 0\n",
-            1,
-        ),
-        (
-            "main := pref*[a?;",
-            "",
-            "refused text at 17\n",
-            1,
-        ),
-        (
-            "main := v.",
-            "",
-            "refused form\n",
-            1,
-        ),
+        ("", "", "refused text at 0\n", 1),
+        ("main := pref*[a?;", "", "refused text at 17\n", 1),
+        ("main := v.", "", "refused form\n", 1),
         (
             "let v := pref*[a?;b!]. main := pref*[a?;b!].",
             "",
             "refused form\n",
             1,
         ),
-        (
-            "main := pref*[a?;b%!].",
-            "",
-            "refused byte at 18\n",
-            1,
-        ),
-        (
-            "main := pref*[a?;_!].",
-            "",
-            "refused token at 17\n",
-            1,
-        ),
+        ("main := pref*[a?;b%!].", "", "refused byte at 18\n", 1),
+        ("main := pref*[a?;_!].", "", "refused token at 17\n", 1),
         (
             "main := pref*[a?;abcdefghijklmnopqrstuvwxyzabcdefg!].",
             "",
             "refused name at 17\n",
             1,
         ),
-        (
-            "main := pref*[(a?)].",
-            "",
-            "refused text at 17\n",
-            1,
-        ),
+        ("main := pref*[(a?)].", "", "refused text at 17\n", 1),
     ];
     for (content, out, say, status) in rows {
         let ran = call(alloc, "check F", Some(content), Vec::new(alloc))?;
@@ -323,7 +293,13 @@ fn refuses_texts(rt: HostRuntime) -> Result<(), Fail> {
 }
 
 // A text, a piece so many times, and an end.
-fn repeated(alloc: Global, start: &str, piece: &str, times: u32, end: &str) -> Result<String, Fail> {
+fn repeated(
+    alloc: Global,
+    start: &str,
+    piece: &str,
+    times: u32,
+    end: &str,
+) -> Result<String, Fail> {
     let mut text = String::from_str(alloc, start)?;
     for _ in 0..times {
         text.push_str(piece)?;
@@ -338,8 +314,22 @@ fn refuses_what_is_past_a_limit(rt: HostRuntime) -> Result<(), Fail> {
     let alloc = rt.alloc();
     let rows = [
         ("main := pref*[", "(", 65, "", "refused depth at 78\n", 1),
-        ("", "# ..............", 65_536, "#", "limit L1: found 1048577, allowed 1048576\n", 6),
-        ("main := pref*[", "a?;b!;", 4096, "a?].", "limit L5: found 8193, allowed 8192\n", 6),
+        (
+            "",
+            "# ..............",
+            65_536,
+            "#",
+            "limit L1: found 1048577, allowed 1048576\n",
+            6,
+        ),
+        (
+            "main := pref*[",
+            "a?;b!;",
+            4096,
+            "a?].",
+            "limit L5: found 8193, allowed 8192\n",
+            6,
+        ),
     ];
     for (start, piece, times, end, say, status) in rows {
         let text = repeated(alloc, start, piece, times, end)?;

@@ -1,6 +1,5 @@
-use Rattle.std.specs.Prelude.{codes, decimal}
-use Rattle.di_top.specs.Decimals.{worded, numbered_line}
-use Rattle.di_io.proofs.Puts.{front_more, front_then, gains_then, ok_then, err_then, on_err}
+use Rattle.std.specs.Prelude.{decimal}
+use Rattle.di_io.proofs.Puts.{front_more, ok_then, err_then, on_err}
 use Rattle.di_top.proofs.decimal.put_worded.Goals as goal
 
 pub returns-in_err-put-clause-front : goal.returns-in_err-put-clause-front

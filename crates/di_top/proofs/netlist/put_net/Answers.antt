@@ -3,7 +3,7 @@ use Rattle.std.specs.List.{AllByRecursion}
 use Rattle.net_core.specs.declared.spec.NodeSpec.TheVariants.{Cmd}
 use Rattle.net_core.specs.Wiring.{Node, Circuit, Fits}
 use Rattle.di_io.specs.Written.{Gains, GainsFront}
-use Rattle.di_top.specs.NetText.{net_text, net_text_of, nodes_net_text}
+use Rattle.di_top.specs.NetText.{net_text_of, nodes_net_text}
 use Rattle.di_top.specs.Netlists.{first_outs}
 use Rattle.di_top.proofs.Lines.{first_lines, first_directed, rest_whole}
 use Rattle.di_top.proofs.netlist.put_net.Goals as goal

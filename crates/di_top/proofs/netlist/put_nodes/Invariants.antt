@@ -1,4 +1,4 @@
-use Rattle.std.proofs.Common.{◌≤◌, ◌+◌, drop}
+use Rattle.std.proofs.Common.{◌≤◌, drop}
 use Rattle.di_top.specs.NetText.{nodes_text}
 use Rattle.di_io.proofs.Puts.{Going}
 use Rattle.di_top.proofs.netlist.put_nodes.Given as goal

@@ -1,4 +1,4 @@
-use Rattle.std.proofs.Common.{◌≡◌, ◌<◌, length, get_or, arith, sym, subst, ap, List, ℕ}
+use Rattle.std.proofs.Common.{◌≡◌, ◌<◌, length, get_or, arith, ap}
 use Rattle.di_io.proofs.Puts.{going_next, going_cut, on_err}
 use Rattle.di_top.proofs.Lines.{ports_next, outs_long}
 use Rattle.di_top.proofs.netlist.put_ports.Goals as goal

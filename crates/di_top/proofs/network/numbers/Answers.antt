@@ -1,4 +1,4 @@
-use Rattle.std.proofs.Common.{◌≡◌, ◌+◌, ◌∷◌, [], ◌++◌, ℕ, List, ap, sym, ◌∙◌}
+use Rattle.std.proofs.Common.{◌+◌, ◌∷◌, [], ◌++◌, ℕ, List, ap, sym, ◌∙◌}
 use Rattle.di_top.proofs.Sides.{range_append}
 use Rattle.di_top.proofs.network.numbers.Goals as goal
 

@@ -1,5 +1,5 @@
-use Rattle.std.specs.Prelude.{codes, decimal}
-use Rattle.di_top.specs.Decimals.{worded, numbered_line}
+use Rattle.std.specs.Prelude.{codes}
+use Rattle.di_top.specs.Decimals.{numbered_line}
 use Rattle.di_io.proofs.Puts.{front_more, front_then, gains_then, ok_then, err_then, on_err}
 use Rattle.di_top.proofs.report.put_counts.Goals as goal
 

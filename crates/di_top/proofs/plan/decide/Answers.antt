@@ -1,0 +1,13 @@
+use Rattle.di_top.proofs.plan.decide.Goals as goal
+
+pub returns-in-CompileWide-clause-ok : goal.returns-in-CompileWide-clause-ok
+returns-in-CompileWide-clause-ok g c = rw c.in-CompileWide.is c.plan_compile.ensures.ok
+
+pub returns-in-CompileWide-clause-stop : goal.returns-in-CompileWide-clause-stop
+returns-in-CompileWide-clause-stop g c = rw c.in-CompileWide.is c.plan_compile.ensures.stop
+
+pub returns-in-Check-clause-ok : goal.returns-in-Check-clause-ok
+returns-in-Check-clause-ok g c = rw c.in-Check.is c.plan_check.ensures.ok
+
+pub returns-in-Check-clause-stop : goal.returns-in-Check-clause-stop
+returns-in-Check-clause-stop g c = rw c.in-Check.is c.plan_check.ensures.stop

@@ -1,0 +1,7 @@
+use Rattle.di_top.proofs.plan.put_plan.Goals as goal
+
+pub returns-in-Check-clause-ok : goal.returns-in-Check-clause-ok
+returns-in-Check-clause-ok g c = rw c.in-Check.is c.put_counts.ensures.ok
+
+pub returns-in-Check-clause-front : goal.returns-in-Check-clause-front
+returns-in-Check-clause-front g c = rw c.in-Check.is c.put_counts.ensures.front
