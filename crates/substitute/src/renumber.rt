@@ -4,7 +4,7 @@ ghost use Rattle.net_core.specs.Wiring.{Node, Fits, count, moved};
 ghost use Rattle.substitute.specs.Refusals.{IsNone, IsLeast};
 ghost use Rattle.substitute.specs.Renumbering.{written, filled, after_filled};
 
-use net_core::{Node, copy_spec};
+use net_core::{Node, moved_node};
 use std::alloc::{AllocError, Global};
 
 /// How often each wire stands in the list.
@@ -87,26 +87,6 @@ pub fn moved_nodes(alloc: Global, nodes: &[Node], table: &[u32]) -> Result<Vec<N
     for node in nodes {
         let copy = moved_node(alloc, node, table)?;
         copies.push(copy)?;
-    }
-    Ok(copies)
-}
-
-fn moved_node(alloc: Global, node: &Node, table: &[u32]) -> Result<Node, AllocError>
-    requires { Fits (length table.now) node.now }
-    ensures { IfOk result (λ copy. copy ≡ moved (λ w. slice_index table.now w) node.now) }
-{
-    let spec = copy_spec(alloc, &node.spec)?;
-    let wires = moved_wires(alloc, &node.wires, table)?;
-    Ok(Node { spec, wires })
-}
-
-fn moved_wires(alloc: Global, wires: &[u32], table: &[u32]) -> Result<Vec<u32>, AllocError>
-    requires { AllByRecursion (λ w. w < length table.now) wires.now }
-    ensures { IfOk result (λ copies. copies.items ≡ map (λ w. slice_index table.now w) wires.now) }
-{
-    let mut copies = Vec::new(alloc);
-    for wire in wires {
-        copies.push(table[*wire as usize])?;
     }
     Ok(copies)
 }
