@@ -5,7 +5,7 @@ use Rattle.std.proofs.lemmas.List.{take_rest}
 use Rattle.std.proofs.lemmas.Bool.{false≢true}
 use Rattle.cmd_tree.specs.declared.tree.Item.{Item}
 use Rattle.cmd_tree.specs.declared.tree.Mark.{Mark}
-use Rattle.cmd_tree.specs.Tree.{TItem, TSeq, TSeqs, TBurst, TAlt, Done, Then, places_of, places_in, places_among}
+use Rattle.cmd_tree.specs.Tree.{TItem, TSeq, TSeqs, TBurst, TAlt, Done, Then, places_of, places_in}
 use Rattle.cmd_tree.specs.View.{item_of, seq_of, seqs_of}
 use Rattle.di_grammar.specs.declared.grant.Form.{Form}
 use Rattle.di_grammar.specs.declared.grant.Form.TheVariants.{Plain, Release}
@@ -53,16 +53,6 @@ mark_places Release (Then i s) h =
       single_place i (output_some (single_mark i) both.0),
       lone_place s (input_some (mark_of_lone (lone_item s)) both.1),
     )
-
-pub input_place : (i : TItem) (m : Mark) → input_mark (single_mark i) ≡ Some m → places_in i ≡ 1
-input_place i m e = single_place i (input_some (single_mark i) (ap (λ (o : Option Mark). is_some o) e))
-
--- a choice that stands alone is no longer than the sequence
-pub choice_places : (s : TSeq) → places_among (choice_of_lone (lone_item s)) ≤ places_of s
-choice_places Done = omega arith
-choice_places (Then (TBurst ms) Done) = omega arith
-choice_places (Then (TAlt ss) Done) = omega arith
-choice_places (Then i (Then j s)) = omega arith
 
 given_more : (step k : ℕ) (m : Option Mark) (ms : Option (List Mark)) (rest : List Burst) → is_some (cons_some m ms) ≡ true
     → (is_some m ≡ true → is_some ms ≡ true → placed_if step (k + step) ms ≡ rest) → placed_if step k (cons_some m ms) ≡ burst_if k m ++ rest

@@ -55,14 +55,11 @@ pub least_append : (fs gs : List Fault) → least (fs ++ gs) ≡ lesser (least f
 least_append [] gs = refl
 least_append (f ∷ fs) gs = ap (λ (a : Option Fault). lesser (Some f) a) (least_append fs gs) ∙ sym (lesser_assoc (Some f) (least fs) (least gs))
 
--- a search for the least goes on by a piece, and ends
+-- a search for the least goes on by a piece
 pub found_next : (found : Option Fault) (now piece rest : List Fault) (whole : Option Fault) → now ≡ piece ++ rest
     → lesser found (least now) ≡ whole → lesser (lesser found (least piece)) (least rest) ≡ whole
 found_next found now piece rest whole e h =
     lesser_assoc found (least piece) (least rest) ∙ ap (λ (a : Option Fault). lesser found a) (sym (least_append piece rest) ∙ ap least (sym e)) ∙ h
-
-pub found_last : (found : Option Fault) (now : List Fault) (whole : Option Fault) → now ≡ [] → lesser found (least now) ≡ whole → found ≡ whole
-found_last found now whole e h = sym (lesser_none found) ∙ ap (λ (fs : List Fault). lesser found (least fs)) (sym e) ∙ h
 
 -- the faults now are those of a piece and those of the rest
 pub record Parts (now piece rest : List Fault) : Type 0 where
