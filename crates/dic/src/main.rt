@@ -1,4 +1,4 @@
-//! The program `dic`: `dic compile wide F` prints the netlist of the command in the file F.
+//! The program `dic`: its words and its streams, handed to the top call.
 #![tactic(auto)]
 
 use di_io::{HostShelf, HostSink};
