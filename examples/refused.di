@@ -1,1 +1,1 @@
-main := pref*[a?;a!].
+main := pref*[a?;b?;c!].

@@ -9,3 +9,4 @@ pub mod Compiling
 pub mod Endings
 pub mod Sourcing
 pub mod Stops
+pub mod CommandPorts

@@ -30,7 +30,7 @@ pub fn load_command<F: Shelf>(alloc: Global, file: &str, shelf: &mut F) -> Resul
 
 /// Reads the command of `main`, which is admitted. What stops it first is answered: too many bytes, a fault
 /// of the text, a definition, a limit of commands, or a broken rule.
-fn read_command(alloc: Global, bytes: &[u8]) -> Result<Command, Outcome>
+pub fn read_command(alloc: Global, bytes: &[u8]) -> Result<Command, Outcome>
     ensures ok { IfOk result (λ command. IsAdmittedText bytes.now command.names command.procs) }
     ensures stop { IfErr result (λ stop. (stop ≡ Outcome.NoMemory) ⊎ StopsWith bytes.now stop) }
 {

@@ -8,6 +8,8 @@ mod laws;
 mod load;
 mod netlist;
 mod network;
+#[cfg(test)]
+mod network_tests;
 mod outcome;
 mod plan;
 mod report;

@@ -59,7 +59,7 @@ fn join_net(alloc: Global, command: Command, inputs: u32, outputs: u32) -> Resul
     builder.finish(numbers(alloc, 0, between)?)
 }
 
-fn add_wires(builder: &mut NetBuilder, many: u32) -> Result<(), AllocError>
+pub fn add_wires(builder: &mut NetBuilder, many: u32) -> Result<(), AllocError>
     requires { builder.old.wires + many < 2 ^ 32 }
     ensures { OnOk result (builder.new ≡ record builder.old { wires = builder.old.wires + many }) }
 {
