@@ -45,7 +45,8 @@ fn orders_a_join_before_its_fork(rt: HostRuntime) -> Result<(), Fail> {
     let mut sink = MemSink::new(alloc, 1000, Vec::new(alloc))?;
     let netlist = Netlist::new(alloc, net)?;
     assert_eq!(rt; put_netlist(&netlist, &mut sink), Ok(()));
-    let text = "dinet 1\nspec pref*[(a?||b?);(c!||d!)]\nport a? 0\nport b? 1\nport c! 2\nport d! 3\nC 0 1 > 4\nFORK 4 > 2 3\nend\n";
+    let text =
+        "dinet 1\nspec pref*[(a?||b?);(c!||d!)]\nport a? 0\nport b? 1\nport c! 2\nport d! 3\nC 0 1 > 4\nFORK 4 > 2 3\nend\n";
     assert!(rt; sink.bytes() == text.as_bytes());
     Ok(())
 }
