@@ -25,3 +25,4 @@ pub mod StateSteps
 pub mod SpotSteps
 pub mod Advance
 pub mod WholeFile
+mod AsWritten

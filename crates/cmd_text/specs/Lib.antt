@@ -13,3 +13,4 @@ pub mod Reader
 pub mod Reading
 pub mod ReaderView
 pub mod Canonical
+pub mod Printed
