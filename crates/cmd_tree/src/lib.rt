@@ -17,7 +17,7 @@ pub use command::Command;
 pub use copy::copy_command;
 pub use laws::{rounds_by_counts, traces_are_closed, traces_are_steps};
 pub use marks::all_marks;
-pub use measure::{depth, places, places_in_all};
+pub use measure::{depth, item_places, places, places_in_all, seq_places};
 pub use name::{Name, NameSet};
 pub use same::same_command;
 pub use tree::{Dir, Item, Mark, Proc, Seq, Sym};

@@ -40,8 +40,9 @@ fn proc_places(process: &Proc) -> u32
     lead + body
 }
 
+/// How many symbol places a sequence has.
 #[cycle(places)]
-fn seq_places(seq: &Seq) -> u32
+pub fn seq_places(seq: &Seq) -> u32
     requires { places_of seq.now < 2 ^ 32 }
     ensures { result ≡ places_of seq.now }
 {
@@ -52,8 +53,9 @@ fn seq_places(seq: &Seq) -> u32
     count
 }
 
+/// How many symbol places an item has.
 #[cycle(places)]
-fn item_places(item: &Item) -> u32
+pub fn item_places(item: &Item) -> u32
     requires { places_in (item_of item.now) < 2 ^ 32 }
     ensures { result ≡ places_in (item_of item.now) }
 {

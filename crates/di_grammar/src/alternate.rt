@@ -9,8 +9,8 @@ ghost use Rattle.di_grammar.specs.Rules.{unalternating, unalternating_in, clashe
 
 use crate::ends::{Dirs, Side, clash_item, clash_seq, item_dirs, seq_dirs};
 use crate::fault::{Fault, lesser};
-use crate::places::{item_places, part_places, seq_places};
-use cmd_tree::{Item, Proc, Seq};
+use crate::places::part_places;
+use cmd_tree::{Item, Proc, Seq, item_places, seq_places};
 
 /// The least fault of a process by the second rule: neighbours alternate.
 pub fn second_rule(process: &Proc) -> Option<Fault>

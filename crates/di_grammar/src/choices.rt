@@ -8,8 +8,8 @@ ghost use Rattle.di_grammar.specs.Rules.{begins_with_output, ends_with_both, bad
 use crate::ends::{Dirs, Side, item_dirs};
 use crate::fault::{Fault, fault_at, lesser};
 use crate::grant::is_grant;
-use crate::places::{item_places, part_places, seq_places};
-use cmd_tree::{Item, Proc, Seq};
+use crate::places::part_places;
+use cmd_tree::{Item, Proc, Seq, item_places, seq_places};
 
 /// The least fault of a process by the fourth rule: each alternative of a choice begins with
 /// inputs, and all end with one direction. A grant has no such fault.

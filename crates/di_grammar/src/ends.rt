@@ -6,8 +6,8 @@ ghost use Rattle.di_grammar.specs.Ends.{ends_of, ends_in, dirs_of, of_dir, first
 ghost use Rattle.di_grammar.specs.Rules.{against, clashes};
 
 use crate::fault::{Fault, fault_at, lesser};
-use crate::places::{dir_of, item_places, seq_places};
-use cmd_tree::{Dir, Item, Seq};
+use crate::places::dir_of;
+use cmd_tree::{Dir, Item, Seq, item_places, seq_places};
 
 /// Which bursts of a tree: the first ones, or the last ones.
 #[derive(Debug, Clone, Copy, PartialEq, Eq)]

@@ -6,9 +6,8 @@ ghost use Rattle.di_grammar.specs.Rules.{twins, granted_twice, spots_from, spots
 
 use crate::fault::{Fault, fault_at, fault_if, lesser};
 use crate::grant::{Grant, grant_of};
-use crate::places::seq_places;
 use crate::spots::{Among, Spot, first_spot, spot_in};
-use cmd_tree::{Mark, Proc};
+use cmd_tree::{Mark, Proc, seq_places};
 
 /// The least fault of a process by the eighth rule: the symbols differ that a grant grants.
 pub fn eighth_rule(process: &Proc) -> Option<Fault>

@@ -4,8 +4,7 @@ ghost use Rattle.cmd_tree.specs.View.{seq_of};
 ghost use Rattle.di_grammar.specs.Least.{lesser};
 
 use crate::fault::{Fault, lesser};
-use crate::places::item_places;
-use cmd_tree::{Item, Mark};
+use cmd_tree::{Item, Mark, item_places};
 
 /// A walk over a tree in text order: the place that it has come to, and the least fault so far.
 #[derive(Debug, Clone, Copy, PartialEq, Eq)]

@@ -6,9 +6,9 @@ ghost use Rattle.di_grammar.specs.Least.{least};
 ghost use Rattle.di_grammar.specs.Rules.{first_spot, spots_of, turned_against, turned, rule_7};
 
 use crate::fault::{Fault, fault_if, lesser};
-use crate::places::{item_places, part_places, same_dir, seq_places};
+use crate::places::{part_places, same_dir};
 use crate::spots::{Among, Spot, first_spot};
-use cmd_tree::{Item, Mark, Proc, Seq};
+use cmd_tree::{Item, Mark, Proc, Seq, item_places, seq_places};
 
 /// The least fault of a process of a command by the seventh rule: a symbol has one direction in the
 /// whole command.

@@ -8,8 +8,8 @@ ghost use Rattle.di_grammar.specs.Ends.{same_dir};
 ghost use Rattle.di_grammar.specs.Rules.{fault, if_so, repeats, uneven_burst, uneven_bursts, rule_1};
 
 use crate::fault::{Fault, fault_at, fault_if, lesser};
-use crate::places::{dir_of, item_places, part_places, same_dir, seq_places};
-use cmd_tree::{Dir, Item, Mark, Proc, Seq};
+use crate::places::{dir_of, part_places, same_dir};
+use cmd_tree::{Dir, Item, Mark, Proc, Seq, item_places, seq_places};
 
 /// The least fault of a mark at place `place` with the symbol of one of the marks `before`, which
 /// begin at place `first`.
