@@ -26,3 +26,6 @@ pub mod SpotSteps
 pub mod Advance
 pub mod WholeFile
 mod AsWritten
+mod Spells
+mod Spelling
+mod MainWritten

@@ -14,7 +14,7 @@ use Rattle.cmd_text.specs.Process.{mark, more_marks, burst, seq, more, item, amo
 use Rattle.cmd_text.specs.File.{Placed, Hint, any, sited, Match, Piece, Process, Call, factor_of, IsPiece, sentence_of, Definition, defined, IsWeave, plain, more_pieces, weave, file, IsTextOf}
 use Rattle.cmd_text.specs.Text.{tokens}
 
-abbrev toks : List Hint → List Token
+abbrev pub toks : List Hint → List Token
 toks hs = map (λ h. h.tok) hs
 
 matched : (hs : List Hint) (xs : List Placed) → Match hs xs → tokens xs ≡ toks hs
@@ -83,7 +83,7 @@ module _ (name : ℕ → List ℕ) where
     spelled : (r : List Hint) → toks (more_pieces name ps r) ≡ more_written ws (toks r)
     first : (r : List Hint) → toks (weave name ps r) ≡ all_written ws (toks r)
 
-  process_toks : (w : Written) (r : List Hint) → toks (plain (process name w.lead w.body []) r) ≡ process name w.lead w.body (toks r)
+  pub process_toks : (w : Written) (r : List Hint) → toks (plain (process name w.lead w.body []) r) ≡ process name w.lead w.body (toks r)
   process_toks w r = plain_toks (process name w.lead w.body []) r ∙ process_before w.lead w.body [] (toks r)
 
   pieces_next : (w : Written) (ps : List Piece) (q : Proc) (qs : List Proc) → proc_of w ≡ q → IsWritten w → Pieces ps qs → Pieces (Process w ∷ ps) (q ∷ qs)
