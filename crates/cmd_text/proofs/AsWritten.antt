@@ -1,5 +1,4 @@
 -- The processes of a command as the canonical text writes them: a body that is one choice stands as its alternatives.
-use Rattle.std.proofs.Common.{List}
 use Rattle.cmd_tree.specs.declared.tree.Proc.{Proc}
 use Rattle.cmd_tree.specs.Tree.{TSeq, TSeqs, TBurst, TAlt, Stop, Or, Done, Then}
 use Rattle.cmd_tree.specs.Limits.{of_part}

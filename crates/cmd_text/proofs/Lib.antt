@@ -26,3 +26,7 @@ pub mod SpotSteps
 pub mod Advance
 pub mod WholeFile
 mod AsWritten
+mod PrintedShape
+mod PrintedNames
+mod PrintedDepth
+mod PrintedLength
