@@ -29,3 +29,8 @@ mod AsWritten
 mod Spells
 mod Spelling
 mod MainWritten
+mod PrintedShape
+mod PrintedNames
+mod PrintedDepth
+mod PrintedLength
+mod CanonicalRead

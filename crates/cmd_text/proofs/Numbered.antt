@@ -155,7 +155,7 @@ last_number : (ns : List (List ℕ)) (n : List ℕ) → is_in n ns ≡ false →
 last_number [] n h = ap (λ b. if b then 0 else suc (number_in [] n)) (eq_self n)
 last_number (m ∷ ms) n h = last_by ms n (bytes_eq n m) (λ g. last_number ms n g) h
 
-push_length : (ns : List (List ℕ)) (n : List ℕ) → length (ns ++ n ∷ []) ≡ length ns + 1
+pub push_length : (ns : List (List ℕ)) (n : List ℕ) → length (ns ++ n ∷ []) ≡ length ns + 1
 push_length [] n = refl
 push_length (m ∷ ns) n = ap suc (push_length ns n) ∙ (omega arith)
 

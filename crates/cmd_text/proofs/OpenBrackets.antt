@@ -20,7 +20,7 @@ sign_shallow : (d : Dir) (n : ℕ) (r : List Token) → IsShallow n (sign_of d �
 sign_shallow Input n r h = h.1
 sign_shallow Output n r h = h.1
 
-closed : (n : ℕ) → n + 1 - 1 ≡ n
+pub closed : (n : ℕ) → n + 1 - 1 ≡ n
 closed n = omega arith
 
 close_shallow : (n : ℕ) (r : List Token) → IsShallow (n + 1) (Close ∷ r) → IsShallow n r
