@@ -314,9 +314,12 @@ abbrev pub place_or : ℕ → Option Spot → ℕ
 place_or k None = k
 place_or k (Some s) = s.place
 
+-- these marks are granted, the first at place k. The other lists are the marks of the grant itself, of the other grants, and of the
+-- processes that are none
 abbrev pub badly_granted_marks : List Spot → List Spot → List Spot → ℕ → List Mark → List Fault
 badly_granted_marks own grants others k [] = []
-badly_granted_marks own grants others k (m ∷ ms) = badly_granted (place_or k (first_spot m own)) (first_spot m grants) (first_spot m others)
+badly_granted_marks own grants others k (m ∷ ms) =
+    badly_granted (place_or k (first_spot m own)) (first_spot m grants) (first_spot m others) ++ badly_granted_marks own grants others (k + 1) ms
 
 abbrev pub badly_granted_among : List Spot → List Spot → List Spot → List Burst → List Fault
 badly_granted_among own grants others [] = []
