@@ -1,5 +1,5 @@
 -- From what was read of a file to what is answered and printed of it.
-use Rattle.std.proofs.Common.{◌≡◌, ℕ, List, Some, refl, sym, subst, inl, inr, IfOk, IfErr, IsErrAnd}
+use Rattle.std.proofs.Common.{◌≡◌, ℕ, List, Some, refl, sym, subst, inl, inr, IfErr, IsErrAnd}
 use Rattle.std.specs.Prelude.{◌⊎◌, Ok, Err, Result}
 use Rattle.cmd_tree.specs.declared.command.Command.{Command}
 use Rattle.cmd_tree.specs.declared.tree.Proc.{Proc}
@@ -33,9 +33,6 @@ compiled form net f e =
       correct = subst Q (sym e) (form_net_correct form.command form.inputs form.outputs f);
       shaped = e;
     }
-
-pub compiled_to : (command : Command) (form : Form) (net : Circuit) → IsFormed form × (form.command ≡ command) → Compiled form net → CompiledTo command net
-compiled_to command form net (f, e) c = record { form = form; of_command = e; formed = f; compiled = c }
 
 pub compiles : (command : Command) (net : Circuit) → CompiledTo command net → Compiles command.procs
 compiles command net c =
@@ -72,14 +69,6 @@ pub bytes_stop : (r : Reading) (file bytes : List ℕ) (stop : Outcome) → Load
     → ((stop ≡ NoMemory) ⊎ StopsWith bytes stop) → IsStop stop × ((stop ≡ NoMemory) ⊎ FileStops r file stop)
 bytes_stop r file bytes stop l (inl e) = let P : Outcome → Type 0 = IsStop in (subst P (sym e) tt, inl e)
 bytes_stop r file bytes stop l (inr s) = (stops_are_stops bytes stop s, inr (Bytes bytes l s))
-
-pub if_ok : {A E : Type 0} (r : Result A E) (P Q : A → Type 0) → ((x : A) → P x → Q x) → IfOk r P → IfOk r Q
-if_ok (Ok x) P Q f h = f x h
-if_ok (Err e) P Q f h = h
-
-pub on_err : {A E : Type 0} (r : Result A E) (P Q : E → Type 0) → ((x : E) → P x → Q x) → IfErr r P → IfErr r Q
-on_err (Ok x) P Q f h = h
-on_err (Err e) P Q f h = f e h
 
 pub if_err : {A E : Type 0} (r : Result A E) (P Q : E → Type 0) → ((x : E) → P x → Q x) → IsErrAnd r P → IfErr r Q
 if_err (Ok x) P Q f h = absurd h

@@ -14,9 +14,10 @@ use Rattle.net_core.specs.Networks.{directions, gives, takes, end_node, fabric}
 use Rattle.net_core.proofs.Counting.{count_nil, count_same, count_other, count-append}
 use Rattle.cmd_tree.specs.Rounds.{Rounds}
 use Rattle.net_core.proofs.RoundsNets.{JoinSpread, join_spread_sound, join_spread_exact}
+use Rattle.net_core.proofs.Sizes.{all_append}
 use Rattle.net_core.proofs.Found.{Located, gives_located, takes_located, node_of_wire, port_of_wire}
 use Rattle.di_top.specs.FormNets.{join_net}
-use Rattle.di_top.proofs.Sides.{twofold, gives_first, gives_second, takes_first, takes_second, gives_where, range_below, all_append, count_low, count_high, count_in, outputs_are, inputs_are}
+use Rattle.di_top.proofs.Sides.{twofold, gives_first, gives_second, takes_first, takes_second, gives_where, range_below, count_low, count_high, count_in, outputs_are, inputs_are}
 use Rattle.di_top.proofs.OneNet.{IsRight, sides_long, row_fits, row_outputs, row_inputs, row_at, env_sides}
 
 module _ (n m : ℕ) where

@@ -72,10 +72,6 @@ pub range_below : (k a n : ℕ) → a + n ≤ k → AllByRecursion (λ w. w < k)
 range_below k a zero le = tt
 range_below k a (suc n) le = (omega arith, range_below k (a + 1) n (omega arith))
 
-pub all_append : (P : ℕ → Type 0) (xs ys : List ℕ) → AllByRecursion P xs → AllByRecursion P ys → AllByRecursion P (xs ++ ys)
-all_append P [] ys f g = g
-all_append P (x ∷ xs) ys f g = (f.0, all_append P xs ys f.1 g)
-
 -- how often a number stands in a row of numbers
 pub count_low : (w a n : ℕ) → w < a → count w (range_with_len a n) ≡ 0
 count_low w a zero h = count_nil w

@@ -1,5 +1,5 @@
 -- What is read of `main` alone is a command, where it is within the limits.
-use Rattle.std.proofs.Common.{◌≡◌, ◌≢◌, ℕ, ◌<◌, ◌≤◌, ◌^◌, Bool, true, false, List, [], ◌∷◌, ◌++◌, map, length, Option, Some, None, Err, refl, sym, ◌∙◌, ap, arith}
+use Rattle.std.proofs.Common.{◌≡◌, ℕ, ◌<◌, ◌≤◌, ◌^◌, Bool, true, false, List, [], ◌∷◌, ◌++◌, map, length, Option, Some, None, Err, refl, sym, ◌∙◌, ap, arith}
 use Rattle.std.specs.Prelude.{nat_lt, if◌then◌else◌, option_map}
 use Rattle.std.specs.List.{IsDistinct}
 use Rattle.std.specs.Str.{bytes_eq}
@@ -37,12 +37,6 @@ pub procs_of_use : (fs : List Factor) (u : use_of.Named) (gs : List Factor) → 
 procs_of_use [] u gs = refl
 procs_of_use (Own p ∷ fs) u gs = ap (λ o. option_map (λ qs. p ∷ qs) o) (procs_of_use fs u gs)
 procs_of_use (Named v ∷ fs) u gs = refl
-
--- a sentence before another one
-pub main_of_more : (ss : List Sentence) (s : Sentence) → ss ≢ [] → main_of (ss ++ s ∷ []) ≡ None
-main_of_more [] s h = absurd (h refl)
-main_of_more (t ∷ []) s h = refl
-main_of_more (t ∷ r ∷ ss) s h = refl
 
 -- ---- what was read
 record Alone (bytes : List ℕ) (names : List (List ℕ)) (procs : List Proc) : Type 0 where

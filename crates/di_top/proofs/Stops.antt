@@ -11,7 +11,7 @@ use Rattle.cmd_text.specs.Fault as faults
 use Rattle.cmd_text.specs.Source.{IsFaultOfBytes}
 use Rattle.cmd_text.specs.ScanView.{fault_of}
 use Rattle.di_grammar.specs.declared.answer.Broken.{Broken}
-use Rattle.di_grammar.specs.Rules.{broken, Admitted}
+use Rattle.di_grammar.specs.Rules.{broken}
 use Rattle.di_grammar.proofs.Answering.{admitted_none}
 use Rattle.di_top.specs.declared.outcome.Outcome.{Outcome}
 use Rattle.di_top.specs.declared.outcome.Outcome.TheVariants.{Refused, NoMemory, Limit}
@@ -50,10 +50,6 @@ pub grammar_stops : (bytes : List ℕ) (names all : List (List ℕ)) (ss : List 
     → sourced all ss ≡ Main names procs → broken procs ≡ Some b → StopsWith bytes (Refused (why.Grammar b))
 grammar_stops bytes names all ss procs b f e h =
     Refuses (Main names procs) (source_is bytes all ss (Main names procs) f e) (ap (option_map (λ c. Refused (why.Grammar c))) h)
-
-pub admitted_text : (bytes : List ℕ) (names all : List (List ℕ)) (ss : List Sentence) (procs : List Proc) → IsFileOf bytes all ss
-    → sourced all ss ≡ Main names procs → Admitted procs → IsAdmittedText bytes names procs
-admitted_text bytes names all ss procs f e a = record { source = source_is bytes all ss (Main names procs) f e; admitted = a }
 
 -- ---- an admitted text stops no call
 pub not_stopped : (bytes : List ℕ) (names : List (List ℕ)) (procs : List Proc) (outcome : Outcome) → IsAdmittedText bytes names procs → StopsWith bytes outcome → ⊥

@@ -166,100 +166,95 @@ fn compiles_many_symbols(rt: HostRuntime) -> Result<(), Fail> {
     Ok(())
 }
 
-// What `check F` prints and says of a file with this one command, and the status.
+// Calls `check F` where the file has this one command.
+fn check_command(alloc: Global, command: &str) -> Result<Ran, Fail> {
+    let text = format!(in alloc; "main := {command}.")?;
+    call(alloc, "check F", Some(text.as_str()), Vec::new(alloc))
+}
+
+const ARBITER: &str = "pref*[a?;p!;c?;e!]||pref*[b?;q!;d?;f!]||pref*[p!;c?|q!;d?]";
+
+// Admitted commands, and the lines about them.
 #[test]
-fn checks_commands(rt: HostRuntime) -> Result<(), Fail> {
+fn admits_commands(rt: HostRuntime) -> Result<(), Fail> {
     let alloc = rt.alloc();
     let rows = [
         (
-            "main := pref*[a?;b!;a?;c!].",
+            "pref*[a?;b!;a?;c!]",
             "admitted\nprocesses 1\nsymbols 3\nplaces 4\n",
-            "",
-            0,
         ),
-        (
-            "main := pref*[a?;p!;c?;e!]||pref*[b?;q!;d?;f!]||pref*[p!;c?|q!;d?].",
-            "admitted\nprocesses 3\nsymbols 8\nplaces 12\n",
-            "",
-            0,
-        ),
-        (
-            "main := pref*[(a?||a?);b!].",
-            "",
-            "refused G1 process 1 place 2 against process 1 place 1\n",
-            1,
-        ),
-        (
-            "main := pref*[a?;b!;(a?||a?);c!].",
-            "",
-            "refused G1 process 1 place 4 against process 1 place 3\n",
-            1,
-        ),
-        (
-            "main := pref*[a?;b?;c!].",
-            "",
-            "refused G2 process 1 place 2 against process 1 place 1\n",
-            1,
-        ),
-        (
-            "main := pref*[a?;b!;c?].",
-            "",
-            "refused G3 process 1 place 3 against process 1 place 1\n",
-            1,
-        ),
-        (
-            "main := pref*[a?;(b!;c?;d!|e!)].",
-            "",
-            "refused G4 process 1 place 2 against process 1 place 2\n",
-            1,
-        ),
-        (
-            "main := pref*[a?;b!|a?;c!].",
-            "",
-            "refused G5 process 1 place 3 against process 1 place 1\n",
-            1,
-        ),
-        (
-            "main := pref*[a?;b!;(a?||c?);d!].",
-            "",
-            "refused G6 process 1 place 3 against process 1 place 1\n",
-            1,
-        ),
-        (
-            "main := pref*[a?;a!].",
-            "",
-            "refused G7 process 1 place 2 against process 1 place 1\n",
-            1,
-        ),
-        (
-            "main := pref*[a?;b!]||pref*[b?;c!].",
-            "",
-            "refused G7 process 2 place 1 against process 1 place 2\n",
-            1,
-        ),
-        (
-            "main := pref*[n?;(p!|p!)].",
-            "",
-            "refused G8 process 1 place 3 against process 1 place 2\n",
-            1,
-        ),
-        (
-            "main := pref*[n?;(p!|q!)].",
-            "",
-            "refused G9 process 1 place 2 against process 1 place 2\n",
-            1,
-        ),
+        (ARBITER, "admitted\nprocesses 3\nsymbols 8\nplaces 12\n"),
     ];
-    for (content, out, say, status) in rows {
-        let ran = call(alloc, "check F", Some(content), Vec::new(alloc))?;
-        assert!(rt; ran.out.bytes() == out.as_bytes(), "{content}");
-        assert!(rt; ran.say.bytes() == say.as_bytes(), "{content}");
-        assert_eq!(rt; ran.outcome.status(), status);
+    for (command, out) in rows {
+        let ran = check_command(alloc, command)?;
+        assert!(rt; ran.out.bytes() == out.as_bytes(), "{command}");
+        assert!(rt; ran.say.bytes().is_empty(), "{command}");
+        assert_eq!(rt; ran.outcome.status(), 0);
     }
     Ok(())
 }
 
-// The same of files that are no text of the grammar, or have definitions.
+// A command for each rule, and the line about it.
+const REFUSED: [(&str, &str); 11] = [
+    (
+        "pref*[(a?||a?);b!]",
+        "refused G1 process 1 place 2 against process 1 place 1\n",
+    ),
+    (
+        "pref*[a?;b!;(a?||a?);c!]",
+        "refused G1 process 1 place 4 against process 1 place 3\n",
+    ),
+    (
+        "pref*[a?;b?;c!]",
+        "refused G2 process 1 place 2 against process 1 place 1\n",
+    ),
+    (
+        "pref*[a?;b!;c?]",
+        "refused G3 process 1 place 3 against process 1 place 1\n",
+    ),
+    (
+        "pref*[a?;(b!;c?;d!|e!)]",
+        "refused G4 process 1 place 2 against process 1 place 2\n",
+    ),
+    (
+        "pref*[a?;b!|a?;c!]",
+        "refused G5 process 1 place 3 against process 1 place 1\n",
+    ),
+    (
+        "pref*[a?;b!;(a?||c?);d!]",
+        "refused G6 process 1 place 3 against process 1 place 1\n",
+    ),
+    (
+        "pref*[a?;a!]",
+        "refused G7 process 1 place 2 against process 1 place 1\n",
+    ),
+    (
+        "pref*[a?;b!]||pref*[b?;c!]",
+        "refused G7 process 2 place 1 against process 1 place 2\n",
+    ),
+    (
+        "pref*[n?;(p!|p!)]",
+        "refused G8 process 1 place 3 against process 1 place 2\n",
+    ),
+    (
+        "pref*[n?;(p!|q!)]",
+        "refused G9 process 1 place 2 against process 1 place 2\n",
+    ),
+];
+
+#[test]
+fn refuses_commands(rt: HostRuntime) -> Result<(), Fail> {
+    let alloc = rt.alloc();
+    for (command, say) in REFUSED {
+        let ran = check_command(alloc, command)?;
+        assert!(rt; ran.out.bytes().is_empty(), "{command}");
+        assert!(rt; ran.say.bytes() == say.as_bytes(), "{command}");
+        assert_eq!(rt; ran.outcome.status(), 1);
+    }
+    Ok(())
+}
+
+// What `check F` prints and says of files that are no text of the grammar, or have definitions, and the status.
 #[test]
 fn refuses_texts(rt: HostRuntime) -> Result<(), Fail> {
     let alloc = rt.alloc();
