@@ -1,0 +1,1 @@
+//! Trees of commands and their rules.

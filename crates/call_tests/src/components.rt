@@ -1,0 +1,1 @@
+//! Kinds of components, and components replaced by networks.

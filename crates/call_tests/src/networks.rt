@@ -1,0 +1,1 @@
+//! Networks, their builder and their walk order.

@@ -1,0 +1,1 @@
+//! Shelves, sinks, printers and the texts of networks.

@@ -1,0 +1,1 @@
+//! Command files, read and written.
