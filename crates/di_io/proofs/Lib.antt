@@ -1,2 +1,4 @@
 pub mod Fronts
 pub mod Puts
+pub mod Prints
+pub mod Rises
