@@ -1,6 +1,8 @@
 -- Texts printed one after another, and what a printer has of them.
-use Rattle.std.proofs.Common.{◌≡◌, ℕ, ◌≤◌, ◌<◌, ◌+◌, Bool, true, false, List, [], ◌++◌, Option, refl, ap, ◌∙◌, sym, append_assoc, arith, subst, length, get_or, drop}
+use Rattle.std.proofs.Common.{◌≡◌, ℕ, ◌≤◌, ◌<◌, ◌+◌, Bool, true, false, List, [], ◌++◌, Option, refl, ap, ◌∙◌, sym, append_assoc, arith, subst, OnOk, OnErr}
 use Rattle.std.proofs.lemmas.List.{append-nil}
+use Rattle.std.specs.Prelude.{Result}
+use Rattle.di_io.specs.declared.PutFault.{PutFault}
 use Rattle.di_io.specs.Faults.{Rose}
 use Rattle.di_io.specs.Written.{Gains, GainsFront}
 use Rattle.di_io.specs.Printing.{Printing, prints}
@@ -76,7 +78,7 @@ has_failed p old now before count piece h g later rose =
 -- a printing, with this text added to what was said
 pub said_next : (written : Option (List ℕ)) (faults sink : ℕ) (before text after : List ℕ) → after ≡ before ++ text
     → ◌≡◌ {A = Printing} (record { written = written; faults = faults; sink = sink; said = after })
-      (prints (record { written = written; faults = faults; sink = sink; said = before }) text)
+    (prints (record { written = written; faults = faults; sink = sink; said = before }) text)
 unfolding prints
 said_next written faults sink before text after e =
     ap (λ (u : List ℕ). record { written = written; faults = faults; sink = sink; said = u }) e
@@ -87,3 +89,27 @@ pub has_next : (p q : Printing) (now : Option (List ℕ)) (count : ℕ) (held te
 has_next p q now count held text more failed same joined h =
     let said : Has (prints p text) now count (held ++ text) failed = has_more p now count held text failed h in
     rw (same, joined) said
+
+-- One text was printed by a new printer, and then it was finished: what holds from its sink's start.
+pub later_at : (p : Printing) (old : Option (List ℕ)) (faults sink : ℕ) (text : List ℕ) (count : ℕ)
+    → p ≡ prints (record { written = old; faults = faults; sink = sink; said = [] }) text → p.faults ≤ count → faults ≤ count
+unfolding prints
+later_at p old faults sink text count e h = omega (arith, ap (λ (q : Printing). q.faults) e)
+
+pub ok_at : (r : Result (Unit {0}) PutFault) (p : Printing) (old now : Option (List ℕ)) (faults sink : ℕ) (text : List ℕ)
+    → p ≡ prints (record { written = old; faults = faults; sink = sink; said = [] }) text → OnOk r (Gains p.written now p.said)
+    → OnOk r (Gains old now text)
+unfolding prints
+ok_at r p old now faults sink text e h = let P : Printing → Type 0 = λ q. OnOk r (Gains q.written now q.said) in subst P e h
+
+pub failed_at : (r : Result (Unit {0}) PutFault) (p : Printing) (old : Option (List ℕ)) (faults sink : ℕ) (text : List ℕ) (count : ℕ)
+    → p ≡ prints (record { written = old; faults = faults; sink = sink; said = [] }) text → OnErr r (Rose p.faults count)
+    → OnErr r (Rose faults count)
+unfolding prints
+failed_at r p old faults sink text count e h = let P : Printing → Type 0 = λ q. OnErr r (Rose q.faults count) in subst P e h
+
+pub front_at : (r : Result (Unit {0}) PutFault) (p : Printing) (old now : Option (List ℕ)) (faults sink : ℕ) (text : List ℕ)
+    → p ≡ prints (record { written = old; faults = faults; sink = sink; said = [] }) text → OnErr r (GainsFront p.written now p.said)
+    → OnErr r (GainsFront old now text)
+unfolding prints
+front_at r p old now faults sink text e h = let P : Printing → Type 0 = λ q. OnErr r (GainsFront q.written now q.said) in subst P e h

@@ -62,10 +62,10 @@ impl<'a, S: Sink> Printer<'a, S> {
     /// A printer into a sink. Nothing is printed yet.
     pub fn new(sink: &'a mut S) -> Printer<'a, S>
         ensures { result ≡ record {
-            written = S.written sink.old;
-            faults = S.faults sink.old;
-            sink = sink.entry.ghost_name;
-            said = [];
+          written = S.written sink.old;
+          faults = S.faults sink.old;
+          sink = sink.entry.ghost_name;
+          said = [];
         } }
     {
         let first = Snapshot::of(sink);
