@@ -15,6 +15,7 @@ use std::alloc::{AllocError, Global};
 /// Puts the canonical text of a command: one line without blanks. It takes no memory.
 ///
 /// `Failed` where the sink failed: then a front of the text was put.
+#[tactic(auto, using(di_io::proofs::Prints::front_at), unfolding(di_io::specs::Printing::prints))]
 pub fn put_command<S: Sink>(command: &Command, sink: &mut S) -> Result<(), PutFault>
     ensures later { S.faults sink.old ≤ S.faults sink.new }
     ensures ok { OnOk result (Gains (S.written sink.old) (S.written sink.new) (procs_text command.now.names command.now.procs)) }

@@ -1,5 +1,5 @@
 -- Texts printed one after another, and what a printer has of them.
-use Rattle.std.proofs.Common.{◌≡◌, ℕ, ◌≤◌, ◌<◌, ◌+◌, Bool, true, false, List, [], ◌++◌, Option, refl, ap, ◌∙◌, sym, append_assoc, arith, subst, OnOk, OnErr}
+use Rattle.std.proofs.Common.{◌≡◌, ℕ, ◌≤◌, ◌<◌, ◌+◌, Bool, true, false, List, [], ◌++◌, Option, refl, ap, ◌∙◌, sym, append_assoc, arith, subst, OnErr}
 use Rattle.std.proofs.lemmas.List.{append-nil}
 use Rattle.std.specs.Prelude.{Result}
 use Rattle.di_io.specs.declared.PutFault.{PutFault}
@@ -90,26 +90,11 @@ has_next p q now count held text more failed same joined h =
     let said : Has (prints p text) now count (held ++ text) failed = has_more p now count held text failed h in
     rw (same, joined) said
 
--- One text was printed by a new printer, and then it was finished: what holds from its sink's start.
-pub later_at : (p : Printing) (old : Option (List ℕ)) (faults sink : ℕ) (text : List ℕ) (count : ℕ)
-    → p ≡ prints (record { written = old; faults = faults; sink = sink; said = [] }) text → p.faults ≤ count → faults ≤ count
-unfolding prints
-later_at p old faults sink text count e h = omega (arith, ap (λ (q : Printing). q.faults) e)
-
-pub ok_at : (r : Result (Unit {0}) PutFault) (p : Printing) (old now : Option (List ℕ)) (faults sink : ℕ) (text : List ℕ)
-    → p ≡ prints (record { written = old; faults = faults; sink = sink; said = [] }) text → OnOk r (Gains p.written now p.said)
-    → OnOk r (Gains old now text)
-unfolding prints
-ok_at r p old now faults sink text e h = let P : Printing → Type 0 = λ q. OnOk r (Gains q.written now q.said) in subst P e h
-
-pub failed_at : (r : Result (Unit {0}) PutFault) (p : Printing) (old : Option (List ℕ)) (faults sink : ℕ) (text : List ℕ) (count : ℕ)
-    → p ≡ prints (record { written = old; faults = faults; sink = sink; said = [] }) text → OnErr r (Rose p.faults count)
-    → OnErr r (Rose faults count)
-unfolding prints
-failed_at r p old faults sink text count e h = let P : Printing → Type 0 = λ q. OnErr r (Rose q.faults count) in subst P e h
-
-pub front_at : (r : Result (Unit {0}) PutFault) (p : Printing) (old now : Option (List ℕ)) (faults sink : ℕ) (text : List ℕ)
-    → p ≡ prints (record { written = old; faults = faults; sink = sink; said = [] }) text → OnErr r (GainsFront p.written now p.said)
-    → OnErr r (GainsFront old now text)
-unfolding prints
-front_at r p old now faults sink text e h = let P : Printing → Type 0 = λ q. OnErr r (GainsFront q.written now q.said) in subst P e h
+-- What `finish` says of a front, said from the start of the sink.
+pub front_at : (r : Result (Unit {0}) PutFault) (a b c d : Option (List ℕ)) (t u : List ℕ) → OnErr r (GainsFront a b t)
+    → a ≡ c → b ≡ d → t ≡ u → OnErr r (GainsFront c d u)
+front_at r a b c d t u h e f same =
+    let P : List ℕ → Type 0 = λ v. OnErr r (GainsFront a b v) in
+    let Q : Option (List ℕ) → Type 0 = λ v. OnErr r (GainsFront a v u) in
+    let R : Option (List ℕ) → Type 0 = λ v. OnErr r (GainsFront v d u) in
+    subst R e (subst Q f (subst P same h))

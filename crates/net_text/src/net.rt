@@ -18,6 +18,7 @@ use net_core::{Net, Node, NodeSpec};
 
 /// Puts the text of a network whose environment is a command; of another it puts nothing. It takes no
 /// memory. `Failed` where the sink failed: then a front of the text was put.
+#[tactic(auto, using(di_io::proofs::Prints::front_at), unfolding(di_io::specs::Printing::prints))]
 pub fn write_net<S: Sink>(net: &Net, sink: &mut S) -> Result<(), PutFault>
     ensures later { S.faults sink.old ≤ S.faults sink.new }
     ensures ok { OnOk result (Gains (S.written sink.old) (S.written sink.new) (net_text net.now)) }
