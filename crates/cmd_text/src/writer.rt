@@ -182,7 +182,8 @@ fn print_marks<S: Sink>(names: &NameSet, marks: &[Mark], printer: &mut Printer<'
     }
 }
 
-fn print_mark<S: Sink>(names: &NameSet, mark: &Mark, printer: &mut Printer<'_, S>)
+/// Prints a mark: the name of its symbol and its sign.
+pub fn print_mark<S: Sink>(names: &NameSet, mark: &Mark, printer: &mut Printer<'_, S>)
     ensures { printer.new ≡ prints printer.old (mark_text names.now mark.now) }
 {
     printer.print(name_bytes(names, mark.sym));

@@ -6,7 +6,7 @@ use Rattle.di_io.specs.declared.PutFault.{PutFault}
 use Rattle.di_io.specs.Faults.{Rose}
 use Rattle.di_io.specs.Written.{Gains, GainsFront}
 use Rattle.di_io.specs.Printing.{Printing, prints}
-use Rattle.di_io.specs.PrinterView.{Has, Held}
+use Rattle.di_io.specs.Mirror.Printer.{Has, Held}
 use Rattle.di_io.proofs.Rises.{rose_after}
 use Rattle.di_io.proofs.Puts.{gains_none, gains_then, front_then, front_more}
 
@@ -17,6 +17,15 @@ prints_twice p s t = ap (λ (u : List ℕ). record p { said = u }) (append_assoc
 pub prints_none : (p : Printing) → prints p [] ≡ p
 unfolding prints
 prints_none p = ap (λ (u : List ℕ). record p { said = u }) (append-nil p.said)
+
+pub prints_then : (p q r : Printing) (s t : List ℕ) → q ≡ prints p s → r ≡ prints q t → r ≡ prints p (s ++ t)
+prints_then p q r s t first second = second ∙ ap (λ (a : Printing). prints a t) first ∙ prints_twice p s t
+
+-- what is still to be printed, and its first piece
+pub prints_rest : (p q r : Printing) (now piece rest : List ℕ) → now ≡ piece ++ rest → q ≡ prints p piece → prints p now ≡ r
+    → prints q rest ≡ r
+prints_rest p q r now piece rest opened printed whole =
+    ap (λ (a : Printing). prints a rest) printed ∙ prints_twice p piece rest ∙ ap (prints p) (sym opened) ∙ whole
 
 -- a printer that was just made
 pub has_none : (now : Option (List ℕ)) (count name : ℕ)

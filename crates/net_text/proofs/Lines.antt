@@ -7,7 +7,7 @@ use Rattle.net_core.specs.declared.spec.NodeSpec.{NodeSpec}
 use Rattle.net_core.specs.declared.spec.NodeSpec.TheVariants.{Cmd}
 use Rattle.net_core.specs.Wiring.{Node, Fits}
 use Rattle.net_text.specs.NetText.{nodes_net_text, command_net_text, environment_text}
-use Rattle.net_text.specs.Whole.{IsWhole}
+use Rattle.net_text.specs.Mirror.Whole.{IsWhole}
 
 -- the nodes of a network are whole
 pub all_whole : (wires : ℕ) (xs : List Node) → AllByRecursion (Fits wires) xs → AllByRecursion IsWhole xs

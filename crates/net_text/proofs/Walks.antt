@@ -1,5 +1,5 @@
 -- The walk that prints a line at the first mark of each symbol.
-use Rattle.std.proofs.Common.{◌≡◌, ◌≢◌, ℕ, zero, suc, ◌+◌, ◌<◌, ◌≤◌, Bool, true, false, List, [], ◌∷◌, ◌++◌, length, drop, max, nat_eq, slice_index_or, if◌then◌else◌, get_or, refl, ap, sym, subst, ◌∙◌, arith, add-one, drop-cons}
+use Rattle.std.proofs.Common.{◌≡◌, ◌≢◌, ℕ, zero, suc, ◌+◌, ◌<◌, ◌≤◌, Bool, true, false, List, [], ◌∷◌, ◌++◌, length, drop, max, nat_eq, slice_index_or, if◌then◌else◌, get_or, refl, ap, sym, subst, ◌∙◌, arith, add-one, drop-cons, append_assoc, inl, inr}
 use Rattle.std.proofs.lemmas.List.{drop_all}
 use Rattle.std.proofs.Math.Nat.{eq-or-lt_of_le}
 use Rattle.cmd_tree.specs.declared.tree.Mark.{Mark}
@@ -7,8 +7,13 @@ use Rattle.cmd_tree.specs.Limits.{IsNumbered}
 use Rattle.net_core.specs.Specs.{gives_symbol, is_output}
 use Rattle.di_io.specs.Printing.{Printing, prints}
 use Rattle.di_io.proofs.Prints.{prints_twice, prints_none}
-use Rattle.net_text.specs.NetText.{port_line, ports_text}
-use Rattle.net_text.specs.Ports.{Walked, walk_mark, walk_marks}
+use Rattle.net_text.specs.NetText.{mark_sign, port_line, ports_text}
+use Rattle.cmd_tree.specs.declared.tree.Dir.{Dir}
+use Rattle.cmd_tree.specs.declared.tree.Dir.TheVariants.{Input, Output}
+use Rattle.cmd_text.specs.Canonical.{sign}
+use Rattle.std.specs.Prelude.{codes}
+use Rattle.text_lines.specs.Lines.{numbered_line}
+use Rattle.net_text.specs.Mirror.Ports.{Walked, mark_line, walk_mark, walk_marks}
 
 pub walk_append : (names : List (List ℕ)) (w : Walked) (ms ns : List Mark)
     → walk_marks names w (ms ++ ns) ≡ walk_marks names (walk_marks names w ms) ns
@@ -27,7 +32,7 @@ ports_same f g k [] same = refl
 ports_same f g k (name ∷ names) same =
     let here : f k ≡ g k = same k (omega arith) in
     let rest : ports_text f (k + 1) names ≡ ports_text g (k + 1) names =
-        ports_same f g (k + 1) names (λ (i : ℕ) (h : k + 1 ≤ i). same i (omega arith)) in
+    ports_same f g (k + 1) names (λ (i : ℕ) (h : k + 1 ≤ i). same i (omega arith)) in
     ap (λ (b : Bool). port_line name b k ++ ports_text f (k + 1) names) here
     ∙ ap (λ (t : List ℕ). port_line name (g k) k ++ t) rest
 
@@ -42,14 +47,56 @@ gives_first m ms k same = grind arith
 gives_later : (m : Mark) (ms : List Mark) (k i : ℕ) → m.sym.0 < k → k ≤ i → gives_symbol (m ∷ ms) i ≡ gives_symbol ms i
 gives_later m ms k i below above = grind arith
 
+sign_same : (d : Dir) → sign d ≡ mark_sign (is_output d)
+sign_same Input = refl
+sign_same Output = refl
+
+-- the line of the symbol k at a mark of it
+line_same : (names : List (List ℕ)) (k : ℕ) (m : Mark) → m.sym.0 ≡ k
+    → mark_line names m ≡ port_line (slice_index_or names k []) (is_output m.dir) k
+unfolding mark_line
+line_same names k m same =
+    ap (λ (t : List ℕ). codes "port " ++ (slice_index_or names m.sym.0 [] ++ t) ++ numbered_line (codes " ") m.sym.0) (sign_same m.dir)
+    ∙ ap (λ (j : ℕ). codes "port " ++ (slice_index_or names j [] ++ mark_sign (is_output m.dir)) ++ numbered_line (codes " ") j) same
+    ∙ ap (λ (t : List ℕ). t ++ numbered_line (codes " ") k)
+    (sym (append_assoc (codes "port ") (slice_index_or names k []) (mark_sign (is_output m.dir))))
+
+pub walk_first_mark : (names : List (List ℕ)) (p : Printing) (k : ℕ) (m : Mark) → m.sym.0 ≡ k
+    → walk_mark names (p, k) m ≡ (prints p (mark_line names m), k + 1)
+unfolding walk_mark
+walk_first_mark names p k m same = grind arith
+
 walk_met : (names : List (List ℕ)) (p : Printing) (k : ℕ) (m : Mark) → m.sym.0 ≡ k
     → walk_mark names (p, k) m ≡ (prints p (port_line (slice_index_or names k []) (is_output m.dir) k), k + 1)
+walk_met names p k m same =
+    walk_first_mark names p k m same ∙ ap (λ (t : List ℕ). (prints p t, k + 1)) (line_same names k m same)
+
+pub walk_other_mark : (names : List (List ℕ)) (p : Printing) (k : ℕ) (m : Mark) → m.sym.0 ≢ k → walk_mark names (p, k) m ≡ (p, k)
 unfolding walk_mark
-walk_met names p k m same = grind arith
+walk_other_mark names p k m other = grind arith
 
 walk_known : (names : List (List ℕ)) (p : Printing) (k : ℕ) (m : Mark) → m.sym.0 < k → walk_mark names (p, k) m ≡ (p, k)
-unfolding walk_mark
-walk_known names p k m below = grind arith
+walk_known names p k m below = walk_other_mark names p k m (omega arith)
+
+-- the next mark of what is still to be walked
+pub walk_next : (names : List (List ℕ)) (w v r : Walked) (ms : List Mark) (i : ℕ) (d : Mark) → i < length ms
+    → v ≡ walk_mark names w (get_or ms i d) → walk_marks names w (drop i ms) ≡ r → walk_marks names v (drop (i + 1) ms) ≡ r
+unfolding walk_marks
+walk_next names w v r ms i d below walked whole =
+    let opened : drop i ms ≡ get_or ms i d ∷ drop (i + 1) ms = rw add-one (drop-cons ms i d below) in
+    ap (λ (a : Walked). walk_marks names a (drop (i + 1) ms)) walked ∙ ap (walk_marks names w) (sym opened) ∙ whole
+
+-- nothing is still to be walked
+pub walk_end : (names : List (List ℕ)) (w r : Walked) (rest : List Mark) → rest ≡ [] → walk_marks names w rest ≡ r → w ≡ r
+unfolding walk_marks
+walk_end names w r rest none whole = ap (walk_marks names w) (sym none) ∙ whole
+
+-- what is still to be walked, and its first piece
+pub walk_rest : (names : List (List ℕ)) (w v r : Walked) (now piece rest : List Mark) → now ≡ piece ++ rest
+    → v ≡ walk_marks names w piece → walk_marks names w now ≡ r → walk_marks names v rest ≡ r
+walk_rest names w v r now piece rest opened walked whole =
+    ap (λ (a : Walked). walk_marks names a rest) walked ∙ sym (walk_append names w piece rest)
+    ∙ ap (walk_marks names w) (sym opened) ∙ whole
 
 -- the text of the lines from the symbol k on
 lines_from : (names : List (List ℕ)) (m : Mark) (ms : List Mark) (k : ℕ) → m.sym.0 ≡ k → k < length names
@@ -67,7 +114,7 @@ lines_from names m ms k same below =
 
 walk_first : (names : List (List ℕ)) (p : Printing) (k : ℕ) (m : Mark) (ms : List Mark) → m.sym.0 ≡ k → k < length names
     → walk_marks names (prints p (port_line (slice_index_or names k []) (is_output m.dir) k), k + 1) ms
-      ≡ (prints (prints p (port_line (slice_index_or names k []) (is_output m.dir) k)) (ports_text (gives_symbol ms) (k + 1) (drop (k + 1) names)), length names)
+    ≡ (prints (prints p (port_line (slice_index_or names k []) (is_output m.dir) k)) (ports_text (gives_symbol ms) (k + 1) (drop (k + 1) names)), length names)
     → walk_marks names (walk_mark names (p, k) m) ms ≡ (prints p (ports_text (gives_symbol (m ∷ ms)) k (drop k names)), length names)
 walk_first names p k m ms same below rest =
     let line : List ℕ = port_line (slice_index_or names k []) (is_output m.dir) k in

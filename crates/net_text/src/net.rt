@@ -7,7 +7,7 @@ ghost use Rattle.di_io.specs.Faults.{Rose};
 ghost use Rattle.di_io.specs.Written.{Gains, GainsFront};
 ghost use Rattle.di_io.specs.Printing.{prints};
 ghost use Rattle.net_text.specs.NetText.{node_line, command_net_text, net_text};
-ghost use Rattle.net_text.specs.Whole.{IsWhole};
+ghost use Rattle.net_text.specs.Mirror.Whole.{IsWhole};
 
 use crate::component::print_node;
 use crate::ports::print_ports;
@@ -53,6 +53,7 @@ fn print_command_net<S: Sink>(command: &Command, parts: &[Node], printer: &mut P
     printer.print(b"end\n");
 }
 
+#[tactic(auto, using(di_io::proofs::Prints::prints_none, di_io::proofs::Each::each_none))]
 fn print_nodes<S: Sink>(nodes: &[Node], printer: &mut Printer<'_, S>)
     requires { AllByRecursion IsWhole nodes.now }
     ensures { printer.new ≡ prints printer.old (flat_map node_line nodes.now) }

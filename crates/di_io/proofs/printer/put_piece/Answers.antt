@@ -4,7 +4,7 @@ use Rattle.di_io.specs.declared.PutFault.{PutFault}
 use Rattle.di_io.specs.Faults.{Rose}
 use Rattle.di_io.specs.Written.{Gains, GainsFront}
 use Rattle.di_io.specs.Printing.{Printing}
-use Rattle.di_io.specs.PrinterView.{Has}
+use Rattle.di_io.specs.Mirror.Printer.{Has}
 use Rattle.di_io.proofs.Prints.{has_put, has_failed}
 use Rattle.di_io.proofs.printer.put_piece.Goals as goal
 

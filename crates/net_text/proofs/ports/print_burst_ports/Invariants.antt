@@ -1,5 +1,5 @@
 use Rattle.std.proofs.Common.{◌≡◌, drop}
-use Rattle.net_text.specs.Ports.{walk_marks}
+use Rattle.net_text.specs.Mirror.Ports.{walk_marks}
 use Rattle.net_text.proofs.ports.print_burst_ports.Given as goal
 
 -- the rest is still to be walked

@@ -1,0 +1,25 @@
+use Rattle.std.proofs.Common.{ℕ, List, length, ap, ◌∙◌, arith}
+use Rattle.std.proofs.lemmas.List.{drop_all}
+use Rattle.cmd_tree.specs.declared.tree.Proc.{Proc}
+use Rattle.cmd_tree.specs.Limits.{marks_of_proc, marks_of_all}
+use Rattle.di_io.proofs.Each.{rest_item}
+use Rattle.net_text.specs.Mirror.Ports.{Walked, walk_marks}
+use Rattle.net_text.proofs.Walks.{walk_rest, walk_end, walk_all}
+use Rattle.net_text.proofs.ports.print_ports.Goals as goal
+
+pub loop-process-preserved : goal.loop-process-preserved
+loop-process-preserved g c =
+    walk_rest c.args.command.now.names _ _ _ _ (marks_of_proc c.process-item.result) _
+    (ap marks_of_all
+    (rest_item c.as_slice-process-items.result.now c.loop-process.process-index c.process-item.result c.loop-process-test.true c.process-item.is))
+    c.print_proc_ports-met.ensures c.loop-process.invariant
+
+pub returns : goal.returns
+returns g c =
+    let walked = walk_end c.args.command.now.names (c.loop-process.printer, c.loop-process.met) _ _
+    (ap marks_of_all (drop_all c.loop-process.process-index c.as_slice-process-items.result.now (omega arith)))
+    c.loop-process.invariant in
+    let whole = walk_all c.args.command.now.names c.args.printer.now 0 (marks_of_all c.args.command.now.procs) c.args.command.now.valid.numbered in
+    ap (λ (w : Walked). w.0) (walked
+    ∙ ap (λ (ps : List Proc). walk_marks c.args.command.now.names (c.args.printer.now, 0) (marks_of_all ps)) c.as_slice-process-items.ensures
+    ∙ whole)
