@@ -130,8 +130,15 @@ fn puts_into_memory(rt: HostRuntime) -> Result<(), Fail> {
     Ok(())
 }
 
-// Prints so many times a text, and then another once. The puts of these numbers fail. Says whether all was put, and what was.
-fn print(alloc: Global, text: &[u8], times: usize, last: &[u8], fails: Vec<(u64, usize)>) -> Result<(bool, MemSink), Fail> {
+// Prints so many times a text, and then another once. The puts of these numbers fail. Says whether all was
+// put, and what was.
+fn print(
+    alloc: Global,
+    text: &[u8],
+    times: usize,
+    last: &[u8],
+    fails: Vec<(u64, usize)>,
+) -> Result<(bool, MemSink), Fail> {
     let mut sink = MemSink::new(alloc, 20_000, fails)?;
     let mut printer = Printer::new(&mut sink);
     for _ in 0..times {

@@ -1,5 +1,5 @@
 //! The canonical text of a command, printed and put.
-#![tactic(auto, using(di_io::proofs::Prints::prints_twice, di_io::proofs::Prints::prints_none))]
+#![tactic(auto, using(di_io::proofs::Prints::printing))]
 
 ghost use Rattle.std.specs.Prelude.{◌≡◌, ◌≤◌, ◌++◌, [], Some, codes, slice_index_or, IfOk, OnOk, OnErr};
 ghost use Rattle.cmd_tree.specs.View.{item_of, seqs_of};
@@ -18,9 +18,11 @@ use std::alloc::{AllocError, Global};
 #[tactic(auto, using(di_io::proofs::Prints::front_at), unfolding(di_io::specs::Printing::prints))]
 pub fn put_command<S: Sink>(command: &Command, sink: &mut S) -> Result<(), PutFault>
     ensures later { S.faults sink.old ≤ S.faults sink.new }
-    ensures ok { OnOk result (Gains (S.written sink.old) (S.written sink.new) (procs_text command.now.names command.now.procs)) }
+    ensures ok { OnOk result (Gains (S.written sink.old) (S.written sink.new)
+        (procs_text command.now.names command.now.procs)) }
     ensures failed { OnErr result (Rose (S.faults sink.old) (S.faults sink.new)) }
-    ensures front { OnErr result (GainsFront (S.written sink.old) (S.written sink.new) (procs_text command.now.names command.now.procs)) }
+    ensures front { OnErr result (GainsFront (S.written sink.old) (S.written sink.new)
+        (procs_text command.now.names command.now.procs)) }
 {
     let mut printer = Printer::new(sink);
     print_command(command, &mut printer);
@@ -35,7 +37,7 @@ pub fn print_command<S: Sink>(command: &Command, printer: &mut Printer<'_, S>)
     print_procs(&command.names, command.procs.as_slice(), printer);
 }
 
-#[tactic(auto, using(di_io::proofs::Prints::prints_twice, di_io::proofs::Prints::prints_none, crate::proofs::Joined::procs_next, crate::proofs::Joined::procs_none))]
+#[tactic(auto, using(di_io::proofs::Prints::printing, crate::proofs::Joined::joined))]
 fn print_procs<S: Sink>(names: &NameSet, procs: &[Proc], printer: &mut Printer<'_, S>)
     ensures { printer.new ≡ prints printer.old (procs_text names.now procs.now) }
 {
@@ -111,7 +113,7 @@ fn print_bare<S: Sink>(names: &NameSet, item: &Item, printer: &mut Printer<'_, S
     }
 }
 
-#[tactic(auto, using(di_io::proofs::Prints::prints_twice, di_io::proofs::Prints::prints_none, crate::proofs::Joined::seqs_next, crate::proofs::Joined::seqs_none))]
+#[tactic(auto, using(di_io::proofs::Prints::printing, crate::proofs::Joined::joined))]
 fn print_seqs<S: Sink>(names: &NameSet, seqs: &[Seq], printer: &mut Printer<'_, S>)
     ensures { printer.new ≡ prints printer.old (seqs_text names.now (seqs_of seqs.now)) }
 {
@@ -124,7 +126,7 @@ fn print_seqs<S: Sink>(names: &NameSet, seqs: &[Seq], printer: &mut Printer<'_, 
 }
 
 #[cycle(print)]
-#[tactic(auto, using(di_io::proofs::Prints::prints_twice, di_io::proofs::Prints::prints_none, crate::proofs::Joined::items_next, crate::proofs::Joined::items_none))]
+#[tactic(auto, using(di_io::proofs::Prints::printing, crate::proofs::Joined::joined))]
 fn print_seq<S: Sink>(names: &NameSet, seq: &Seq, printer: &mut Printer<'_, S>)
     ensures { printer.new ≡ prints printer.old (seq_text names.now seq.now) }
 {
@@ -137,7 +139,7 @@ fn print_seq<S: Sink>(names: &NameSet, seq: &Seq, printer: &mut Printer<'_, S>)
 }
 
 #[cycle(print)]
-#[tactic(auto, using(di_io::proofs::Prints::prints_twice, di_io::proofs::Prints::prints_none, crate::proofs::Joined::seqs_next, crate::proofs::Joined::seqs_none))]
+#[tactic(auto, using(di_io::proofs::Prints::printing, crate::proofs::Joined::joined))]
 fn print_item<S: Sink>(names: &NameSet, item: &Item, printer: &mut Printer<'_, S>)
     ensures { printer.new ≡ prints printer.old (item_text names.now (item_of item.now)) }
 {
@@ -170,7 +172,7 @@ fn print_burst<S: Sink>(names: &NameSet, marks: &[Mark], printer: &mut Printer<'
     }
 }
 
-#[tactic(auto, using(di_io::proofs::Prints::prints_twice, di_io::proofs::Prints::prints_none, crate::proofs::Joined::marks_at, crate::proofs::Joined::marks_none))]
+#[tactic(auto, using(di_io::proofs::Prints::printing, crate::proofs::Joined::joined))]
 fn print_marks<S: Sink>(names: &NameSet, marks: &[Mark], printer: &mut Printer<'_, S>)
     ensures { printer.new ≡ prints printer.old (marks_led names.now [] marks.now) }
 {

@@ -18,24 +18,15 @@ pub prints_none : (p : Printing) → prints p [] ≡ p
 unfolding prints
 prints_none p = ap (λ (u : List ℕ). record p { said = u }) (append-nil p.said)
 
-pub prints_then : (p q r : Printing) (s t : List ℕ) → q ≡ prints p s → r ≡ prints q t → r ≡ prints p (s ++ t)
-prints_then p q r s t first second = second ∙ ap (λ (a : Printing). prints a t) first ∙ prints_twice p s t
+-- pieces that are printed one after another, some of them empty
+pub ruleset printing = (prints_twice, prints_none)
 
 -- what is still to be printed, and its first piece
-pub prints_rest : (p q r : Printing) (now piece rest : List ℕ) → now ≡ piece ++ rest → q ≡ prints p piece → prints p now ≡ r
-    → prints q rest ≡ r
+pub prints_rest : (p q r : Printing) (now piece rest : List ℕ) → now ≡ piece ++ rest → q ≡ prints p piece
+    → prints p now ≡ r → prints q rest ≡ r
 prints_rest p q r now piece rest opened printed whole =
-    ap (λ (a : Printing). prints a rest) printed ∙ prints_twice p piece rest ∙ ap (prints p) (sym opened) ∙ whole
-
--- a printer that was just made
-pub has_none : (now : Option (List ℕ)) (count name : ℕ)
-    → Has (record { written = now; faults = count; sink = name; said = [] }) now count [] false
-has_none now count name = record {
-  later = omega arith;
-  kept = λ _. record { put = []; gained = gains_none now; joins = refl };
-  rose = λ e. absurd (cc);
-  front = λ e. absurd (cc);
-}
+    ap (λ (a : Printing). prints a rest) printed ∙ prints_twice p piece rest
+    ∙ ap (prints p) (sym opened) ∙ whole
 
 -- more is held
 pub has_more : (p : Printing) (now : Option (List ℕ)) (count : ℕ) (held text : List ℕ) (failed : Bool)
@@ -72,7 +63,8 @@ has_put p old now before count piece h g later =
 
 -- it could not be put
 pub has_failed : (p : Printing) (old now : Option (List ℕ)) (before count : ℕ) (piece : List ℕ)
-    → Has p old before piece false → GainsFront old now piece → before ≤ count → Rose before count → Has p now count [] true
+    → Has p old before piece false → GainsFront old now piece → before ≤ count → Rose before count
+    → Has p now count [] true
 has_failed p old now before count piece h g later rose =
     let k = h.kept refl in
     record {
@@ -85,8 +77,8 @@ has_failed p old now before count piece h g later rose =
     }
 
 -- a printing, with this text added to what was said
-pub said_next : (written : Option (List ℕ)) (faults sink : ℕ) (before text after : List ℕ) → after ≡ before ++ text
-    → ◌≡◌ {A = Printing} (record { written = written; faults = faults; sink = sink; said = after })
+pub said_next : (written : Option (List ℕ)) (faults sink : ℕ) (before text after : List ℕ)
+    → after ≡ before ++ text → ◌≡◌ {A = Printing} (record { written = written; faults = faults; sink = sink; said = after })
     (prints (record { written = written; faults = faults; sink = sink; said = before }) text)
 unfolding prints
 said_next written faults sink before text after e =
@@ -96,12 +88,13 @@ said_next written faults sink before text after e =
 pub has_next : (p q : Printing) (now : Option (List ℕ)) (count : ℕ) (held text more : List ℕ) (failed : Bool)
     → q ≡ prints p text → more ≡ held ++ text → Has p now count held failed → Has q now count more failed
 has_next p q now count held text more failed same joined h =
-    let said : Has (prints p text) now count (held ++ text) failed = has_more p now count held text failed h in
+    let said : Has (prints p text) now count (held ++ text) failed =
+    has_more p now count held text failed h in
     rw (same, joined) said
 
 -- What `finish` says of a front, said from the start of the sink.
-pub front_at : (r : Result (Unit {0}) PutFault) (a b c d : Option (List ℕ)) (t u : List ℕ) → OnErr r (GainsFront a b t)
-    → a ≡ c → b ≡ d → t ≡ u → OnErr r (GainsFront c d u)
+pub front_at : (r : Result (Unit {0}) PutFault) (a b c d : Option (List ℕ)) (t u : List ℕ)
+    → OnErr r (GainsFront a b t) → a ≡ c → b ≡ d → t ≡ u → OnErr r (GainsFront c d u)
 front_at r a b c d t u h e f same =
     let P : List ℕ → Type 0 = λ v. OnErr r (GainsFront a b v) in
     let Q : Option (List ℕ) → Type 0 = λ v. OnErr r (GainsFront a v u) in

@@ -10,7 +10,8 @@ gains_none a before is = is ∙ ap Some (sym (append-nil before))
 pub gains_then : (a b c : Option (List ℕ)) (t u : List ℕ) → Gains a b t → Gains b c u → Gains a c (t ++ u)
 gains_then a b c t u g h before is = h (before ++ t) (g before is) ∙ ap Some (append_assoc before t u)
 
-pub front_then : (a b c : Option (List ℕ)) (t u : List ℕ) → Gains a b t → GainsFront b c u → GainsFront a c (t ++ u)
+pub front_then : (a b c : Option (List ℕ)) (t u : List ℕ) → Gains a b t → GainsFront b c u
+    → GainsFront a c (t ++ u)
 front_then a b c t u g h before is =
     let f = h (before ++ t) (g before is) in
     record {

@@ -108,7 +108,8 @@ impl<'a, S: Sink> Printer<'a, S> {
         ensures later { self.entry.faults ≤ S.faults result.1.now }
         ensures ok { OnOk result.0 (Gains self.entry.written (S.written result.1.now) self.entry.said) }
         ensures failed { OnErr result.0 (Rose self.entry.faults (S.faults result.1.now)) }
-        ensures front { OnErr result.0 (GainsFront self.entry.written (S.written result.1.now) self.entry.said) }
+        ensures front { OnErr result.0
+            (GainsFront self.entry.written (S.written result.1.now) self.entry.said) }
     {
         let Printer {
             sink,

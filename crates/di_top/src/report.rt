@@ -1,5 +1,5 @@
 //! What `check F` prints.
-#![tactic(auto, using(di_io::proofs::Prints::prints_twice))]
+#![tactic(auto, using(di_io::proofs::Prints::printing))]
 
 ghost use Rattle.std.specs.Prelude.{◌≡◌, ◌≤◌, OnOk, OnErr};
 ghost use Rattle.di_io.specs.Faults.{Rose};

@@ -23,7 +23,8 @@ crossing_text crossing = worded (codes " ") crossing.0 ++ worded (codes ".") cro
 
 -- the kind of a decision wait with its shape
 abbrev pub shape_text : Shape → List ℕ
-shape_text s = worded (codes "DW ") s.rows ++ worded (codes " ") s.cols ++ flat_map crossing_text s.cross ++ codes " :"
+shape_text s =
+    worded (codes "DW ") s.rows ++ worded (codes " ") s.cols ++ flat_map crossing_text s.cross ++ codes " :"
 
 -- the name of a kind; a decision wait has its shape behind it
 abbrev pub kind_text : Kind → List ℕ
@@ -67,8 +68,8 @@ ports_text is_output k (name ∷ names) = port_line name (is_output k) k ++ port
 -- the text of a network of these components in the environment of a command
 abbrev pub command_net_text : Command → List Node → List ℕ
 command_net_text c parts =
-    codes "dinet 1\nspec " ++ procs_text c.names c.procs ++ codes "\n" ++ ports_text (gives_symbol (marks_of_all c.procs)) 0 c.names
-    ++ flat_map node_line parts ++ codes "end\n"
+    codes "dinet 1\nspec " ++ procs_text c.names c.procs ++ codes "\n"
+    ++ ports_text (gives_symbol (marks_of_all c.procs)) 0 c.names ++ flat_map node_line parts ++ codes "end\n"
 
 abbrev pub environment_text : NodeSpec → List Node → List ℕ
 environment_text (Basic kind) parts = []

@@ -1,5 +1,5 @@
 //! The line of a component.
-#![tactic(auto, using(di_io::proofs::Prints::prints_twice, di_io::proofs::Prints::prints_none))]
+#![tactic(auto, using(di_io::proofs::Prints::printing))]
 
 ghost use Rattle.std.specs.Prelude.{◌≡◌, flat_map};
 ghost use Rattle.di_io.specs.Printing.{prints};
@@ -80,7 +80,7 @@ fn print_crossing<S: Sink>(row: u32, column: u32, printer: &mut Printer<'_, S>)
     print_worded(b".", column as u64, printer);
 }
 
-#[tactic(auto, using(di_io::proofs::Prints::prints_twice, di_io::proofs::Prints::prints_none, di_io::proofs::Each::each_number, di_io::proofs::Each::each_none))]
+#[tactic(auto, using(di_io::proofs::Prints::printing, di_io::proofs::Each::each_number, di_io::proofs::Each::each_none))]
 fn print_numbers<S: Sink>(numbers: &[u32], printer: &mut Printer<'_, S>)
     ensures { printer.new ≡ prints printer.old (flat_map number_text numbers.now) }
 {

@@ -1,5 +1,5 @@
 //! The text of a whole network.
-#![tactic(auto, using(di_io::proofs::Prints::prints_twice, di_io::proofs::Prints::prints_none))]
+#![tactic(auto, using(di_io::proofs::Prints::printing))]
 
 ghost use Rattle.std.specs.Prelude.{◌≡◌, ◌≤◌, flat_map, OnOk, OnErr};
 ghost use Rattle.std.specs.List.{AllByRecursion};

@@ -18,7 +18,8 @@ use text_lines::print_numbered;
 
 /// Prints a line for each symbol of a command.
 pub fn print_ports<S: Sink>(command: &Command, printer: &mut Printer<'_, S>)
-    ensures { printer.new ≡ prints printer.old (ports_text (gives_symbol (marks_of_all command.now.procs)) 0 command.now.names) }
+    ensures { printer.new ≡ prints printer.old
+        (ports_text (gives_symbol (marks_of_all command.now.procs)) 0 command.now.names) }
 {
     let mut met = 0;
     for process in command.procs.as_slice() {

@@ -34,5 +34,6 @@ pub value-decimal : (n : ℕ) → n < 2 ^ 64 → value_of (decimal n) ≡ n
 value-decimal n h = digits_value-decimal model n h
 
 -- a decimal below 2^64 is what its number is written as
-pub decimal-value : (bytes : List ℕ) → IsDecimal bytes → value_of bytes < 2 ^ 64 → bytes ≡ decimal (value_of bytes)
+pub decimal-value : (bytes : List ℕ) → IsDecimal bytes → value_of bytes < 2 ^ 64
+    → bytes ≡ decimal (value_of bytes)
 decimal-value bytes d h = sym (decimal-digits_value model bytes d.digits d.some d.lean h)

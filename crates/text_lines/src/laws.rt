@@ -6,5 +6,6 @@ ghost use Rattle.text_lines.specs.Decimals.{value_of, IsDecimal};
 /// number is written as.
 pub fn decimals_are_numbers()
     ensures written { (n : ℕ) → n < 2 ^ 64 → IsDecimal (decimal n) × (value_of (decimal n) ≡ n) }
-    ensures read { (bytes : List ℕ) → IsDecimal bytes → value_of bytes < 2 ^ 64 → bytes ≡ decimal (value_of bytes) }
+    ensures read { (bytes : List ℕ) → IsDecimal bytes → value_of bytes < 2 ^ 64
+        → bytes ≡ decimal (value_of bytes) }
 {}

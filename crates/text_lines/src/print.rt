@@ -1,5 +1,5 @@
 //! Prints numbers, and words with a number.
-#![tactic(auto, using(di_io::proofs::Prints::prints_twice), unfolding(crate::specs::Lines::worded, crate::specs::Lines::numbered_line))]
+#![tactic(auto, using(di_io::proofs::Prints::printing), unfolding(crate::specs::Lines::worded, crate::specs::Lines::numbered_line))]
 
 ghost use Rattle.std.specs.Prelude.{◌≡◌, decimal};
 ghost use Rattle.di_io.specs.Printing.{prints};

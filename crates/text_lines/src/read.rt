@@ -18,7 +18,8 @@ pub enum DecimalFault {
 pub fn read_decimal(bytes: &[u8]) -> Result<u64, DecimalFault>
     ensures number { IfOk result (λ number. IsDecimal bytes.now × (number ≡ value_of bytes.now)) }
     ensures refused { (result ≡ Err DecimalFault.NotDecimal) ↔ (IsDecimal bytes.now → ⊥) }
-    ensures large { (result ≡ Err DecimalFault.TooLarge) ↔ (IsDecimal bytes.now × (2 ^ 64 ≤ value_of bytes.now)) }
+    ensures large { (result ≡ Err DecimalFault.TooLarge)
+        ↔ (IsDecimal bytes.now × (2 ^ 64 ≤ value_of bytes.now)) }
 {
     if !is_decimal(bytes) {
         return Err(DecimalFault::NotDecimal);

@@ -5,5 +5,6 @@ use Rattle.net_text.proofs.component.print_crossings.Goals as goal
 
 pub loop-row-preserved : goal.loop-row-preserved
 loop-row-preserved g c =
-    prints_rest _ _ _ _ _ _ (each_next crossing_text c.args.crossings.now c.loop-row.row-index _ c.loop-row-test.true)
+    prints_rest _ _ _ _ _ _
+    (each_next crossing_text c.args.crossings.now c.loop-row.row-index _ c.loop-row-test.true)
     c.print_crossing.ensures c.loop-row.invariant

@@ -4,7 +4,8 @@ use Rattle.net_text.proofs.Walks.{walk_first_mark, walk_other_mark}
 use Rattle.net_text.proofs.ports.print_mark_port.Goals as goal
 
 pub returns-then-mark-met : goal.returns-then-mark-met
-returns-then-mark-met g c = sym (walk_other_mark c.args.names.now c.args.printer.now c.args.met c.args.mark c.if-mark-met.true)
+returns-then-mark-met g c =
+    sym (walk_other_mark c.args.names.now c.args.printer.now c.args.met c.args.mark c.if-mark-met.true)
 
 pub returns : goal.returns
 returns g c =

@@ -9,17 +9,20 @@ use Rattle.net_text.proofs.ports.print_ports.Goals as goal
 
 pub loop-process-preserved : goal.loop-process-preserved
 loop-process-preserved g c =
-    walk_rest c.args.command.now.names _ _ _ _ (marks_of_proc c.process-item.result) _
-    (ap marks_of_all
-    (rest_item c.as_slice-process-items.result.now c.loop-process.process-index c.process-item.result c.loop-process-test.true c.process-item.is))
+    let procs = c.as_slice-process-items.result.now in
+    let process = c.process-item in
+    let rest = rest_item procs c.loop-process.process-index process.result c.loop-process-test.true process.is in
+    walk_rest c.args.command.now.names _ _ _ _ (marks_of_proc process.result) _ (ap marks_of_all rest)
     c.print_proc_ports-met.ensures c.loop-process.invariant
 
 pub returns : goal.returns
 returns g c =
-    let walked = walk_end c.args.command.now.names (c.loop-process.printer, c.loop-process.met) _ _
-    (ap marks_of_all (drop_all c.loop-process.process-index c.as_slice-process-items.result.now (omega arith)))
+    let names = c.args.command.now.names in
+    let procs = c.args.command.now.procs in
+    let none = drop_all c.loop-process.process-index c.as_slice-process-items.result.now (omega arith) in
+    let walked = walk_end names (c.loop-process.printer, c.loop-process.met) _ _ (ap marks_of_all none)
     c.loop-process.invariant in
-    let whole = walk_all c.args.command.now.names c.args.printer.now 0 (marks_of_all c.args.command.now.procs) c.args.command.now.valid.numbered in
+    let whole = walk_all names c.args.printer.now 0 (marks_of_all procs) c.args.command.now.valid.numbered in
     ap (λ (w : Walked). w.0) (walked
-    ∙ ap (λ (ps : List Proc). walk_marks c.args.command.now.names (c.args.printer.now, 0) (marks_of_all ps)) c.as_slice-process-items.ensures
+    ∙ ap (λ (ps : List Proc). walk_marks names (c.args.printer.now, 0) (marks_of_all ps)) c.as_slice-process-items.ensures
     ∙ whole)
