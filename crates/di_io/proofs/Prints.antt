@@ -1,14 +1,14 @@
 -- Texts printed one after another, and what a printer has of them.
-use Rattle.std.proofs.Common.{◌≡◌, ℕ, ◌≤◌, ◌<◌, ◌+◌, Bool, true, false, List, [], ◌++◌, Option, refl, ap, ◌∙◌, sym, append_assoc, arith, subst, OnErr}
+use Rattle.std.proofs.Common.{◌≡◌, ℕ, ◌≤◌, Bool, true, false, List, [], ◌++◌, Option, refl, ap, ◌∙◌, sym, append_assoc, arith, subst, OnErr}
 use Rattle.std.proofs.lemmas.List.{append-nil}
 use Rattle.std.specs.Prelude.{Result}
 use Rattle.di_io.specs.declared.PutFault.{PutFault}
 use Rattle.di_io.specs.Faults.{Rose}
 use Rattle.di_io.specs.Written.{Gains, GainsFront}
 use Rattle.di_io.specs.Printing.{Printing, prints}
-use Rattle.di_io.specs.Mirror.Printer.{Has, Held}
+use Rattle.di_io.specs.Mirror.Printer.{Has}
 use Rattle.di_io.proofs.Rises.{rose_after}
-use Rattle.di_io.proofs.Puts.{gains_none, gains_then, front_then, front_more}
+use Rattle.di_io.proofs.Puts.{gains_then, front_then, front_more}
 
 pub prints_twice : (p : Printing) (s t : List ℕ) → prints (prints p s) t ≡ prints p (s ++ t)
 unfolding prints

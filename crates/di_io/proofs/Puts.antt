@@ -1,11 +1,7 @@
 -- Texts put one after another: what a sink gained in all.
-use Rattle.std.proofs.Common.{◌≡◌, ℕ, List, [], ◌++◌, Option, Some, ap, ◌∙◌, sym, append_assoc}
+use Rattle.std.proofs.Common.{ℕ, List, [], ◌++◌, Option, Some, ap, ◌∙◌, sym, append_assoc}
 use Rattle.std.proofs.lemmas.List.{append-nil}
 use Rattle.di_io.specs.Written.{Gains, GainsFront}
-
--- nothing was put
-pub gains_none : (a : Option (List ℕ)) → Gains a a []
-gains_none a before is = is ∙ ap Some (sym (append-nil before))
 
 pub gains_then : (a b c : Option (List ℕ)) (t u : List ℕ) → Gains a b t → Gains b c u → Gains a c (t ++ u)
 gains_then a b c t u g h before is = h (before ++ t) (g before is) ∙ ap Some (append_assoc before t u)

@@ -1,4 +1,4 @@
-use Rattle.std.proofs.Common.{◌≡◌, ℕ, ◌≤◌, Bool, false, List, [], Option, OnOk, OnErr}
+use Rattle.std.proofs.Common.{ℕ, ◌≤◌, false, List, [], Option, OnOk, OnErr}
 use Rattle.std.specs.Prelude.{Result, Ok, Err, is_err}
 use Rattle.di_io.specs.declared.PutFault.{PutFault}
 use Rattle.di_io.specs.Faults.{Rose}

@@ -1,4 +1,4 @@
-use Rattle.std.proofs.Common.{List, [], ap, ◌∙◌, sym, arith}
+use Rattle.std.proofs.Common.{List, ap, ◌∙◌, sym, arith}
 use Rattle.std.proofs.lemmas.List.{drop_all}
 use Rattle.cmd_tree.specs.declared.tree.Item.{Item}
 use Rattle.cmd_tree.specs.Tree.{TSeq, marks_of, marks_in, marks_among}

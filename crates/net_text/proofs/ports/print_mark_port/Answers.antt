@@ -1,4 +1,4 @@
-use Rattle.std.proofs.Common.{ℕ, ◌+◌, ap, ◌∙◌, sym}
+use Rattle.std.proofs.Common.{◌+◌, ap, ◌∙◌, sym}
 use Rattle.di_io.specs.Printing.{Printing}
 use Rattle.net_text.proofs.Walks.{walk_first_mark, walk_other_mark}
 use Rattle.net_text.proofs.ports.print_mark_port.Goals as goal

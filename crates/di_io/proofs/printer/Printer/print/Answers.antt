@@ -1,4 +1,4 @@
-use Rattle.std.proofs.Common.{◌≡◌, ℕ, ◌+◌, ◌-◌, ◌≤◌, List, [], ◌++◌, length, take, ap, ◌∙◌, arith, refl}
+use Rattle.std.proofs.Common.{[], take, ap, ◌∙◌, arith, refl}
 use Rattle.std.proofs.lemmas.Slice.{take-put_mid}
 use Rattle.std.proofs.lemmas.List.{take_at}
 use Rattle.di_io.specs.Printing.{Printing, prints}
