@@ -219,6 +219,7 @@ module _ (c : Command) (n m : ℕ) (some_in : 0 < n) (some_out : 0 < m) (outs : 
     closed = closed;
     basic = (refl, (refl, tt));
     correct = record {
+      network = record { some = omega arith; wired = fits };
       closed = closed;
       specified = refl;
       sound = join_spread_sound (fabric net) n m join_spread;

@@ -159,6 +159,7 @@ module _ (c : Command) (kind : Kind) (n m : ℕ) (some_in : 0 < n) (some_out : 0
     closed = closed;
     basic = (refl, tt);
     correct = record {
+      network = record { some = omega arith; wired = fits };
       closed = closed;
       specified = refl;
       sound = one_rounds_sound (fabric net) n m one_rounds;

@@ -6,10 +6,10 @@ use Rattle.std.proofs.lemmas.Option.{slice_get_within, same_Some, none-some}
 use Rattle.std.proofs.lemmas.List.{length-map}
 use Rattle.std.specs.List.{AllByRecursion}
 use Rattle.net_core.specs.Runs.{Sound, Exact}
-use Rattle.net_core.specs.Wiring.{Node, Circuit, IsWired, IsClosed, moved}
+use Rattle.net_core.specs.Wiring.{Node, Circuit, IsWired, IsNetwork, IsClosed, moved}
 use Rattle.net_core.specs.Networks.{gives, takes, end_at, spec_of, fabric, IsSpecified, SoundFor, Correct, IsClean, Once}
 use Rattle.net_core.specs.declared.spec.NodeSpec.{NodeSpec}
-use Rattle.net_core.proofs.Moved.{all_from, all_moved}
+use Rattle.net_core.proofs.Moved.{all_from, all_moved, node_at}
 use Rattle.net_core.proofs.Ends.{closed_by_counts}
 use Rattle.net_core.proofs.Found.{found_only, gives_there, takes_there, all_nodes}
 use Rattle.substitute.specs.Splice.{driver, receiver, output, input, is_inner, rank, renumber, spliced, Fitting}
@@ -223,6 +223,14 @@ module _ (c : Circuit) (a : ℕ) (m : Circuit) (fit : Fitting c a m) where
   spliced_specified s e = ap (λ k. spec_of (slice_get (spliced c a m).nodes k)) (sym (net_zero c a m fit))
       ∙ ap spec_of (net_node c a m fit 0 component_other) ∙ e
 
+  pub spliced_network : IsNetwork c → IsNetwork (spliced c a m)
+  spliced_network network =
+      let (x, e) = node_at c.nodes 0 network.some in record {
+        some = omega (arith, slice_get_within (spliced c a m).nodes 0 x
+            (ap (slice_get (spliced c a m).nodes) (sym (net_zero c a m fit)) ∙ net_node c a m fit 0 component_other ∙ e));
+        wired = spliced_fits;
+      }
+
   pub spliced_sound : Sound (fabric c) → Sound (fabric m) → Sound (fabric (spliced c a m))
   spliced_sound f g = joined_sound (fabric c) a (fabric m) 0 (fabric (spliced c a m)) (spliced_joins c a m fit) f g
 
@@ -234,6 +242,7 @@ module _ (c : Circuit) (a : ℕ) (m : Circuit) (fit : Fitting c a m) where
   -- Sound for s with a network that is sound for a's specification in a's place is sound for s.
   pub spliced_sound_for : (s t : NodeSpec) → SoundFor c s → SoundFor m t → SoundFor (spliced c a m) s
   spliced_sound_for s t f g = record {
+    network = spliced_network f.network;
     closed = spliced_closed;
     specified = spliced_specified s f.specified;
     sound = spliced_sound f.sound g.sound;
@@ -242,6 +251,7 @@ module _ (c : Circuit) (a : ℕ) (m : Circuit) (fit : Fitting c a m) where
   -- And correct with correct is correct.
   pub spliced_correct : (s t : NodeSpec) → Correct c s → Correct m t → Correct (spliced c a m) s
   spliced_correct s t f g = record {
+    network = spliced_network f.network;
     closed = spliced_closed;
     specified = spliced_specified s f.specified;
     sound = spliced_sound f.sound g.sound;
