@@ -93,15 +93,17 @@ module _ (s : Shape) where
       let x : ℕ = c.place in
       let syms : symbols ms ≡ row_port x ∷ col_port x ∷ [] = ap symbols c.burst in
       ⊎_elim
-        (λ (e : a ≡ row_port x). (
-          WaitCol x,
-          left_is (without a (symbols ms)) r (left (WaitCol x)) (ap (λ t. without a t) syms ∙ ap (λ y. without y (row_port x ∷ col_port x ∷ [])) e ∙ without_first (row_port x) (col_port x)) c.rest,
-          subst (λ y. Goes Idle y (WaitCol x)) (sym e) (row_first x c.within)))
-        (λ (e : a ≡ col_port x). (
-          WaitRow x,
-          left_is (without a (symbols ms)) r (left (WaitRow x)) (ap (λ t. without a t) syms ∙ ap (λ y. without y (row_port x ∷ col_port x ∷ [])) e ∙ without_second (row_port x) (col_port x) (apart x c.within)) c.rest,
-          subst (λ y. Goes Idle y (WaitRow x)) (sym e) (col_first x c.within)))
-        (in_two a (row_port x) (col_port x) (subst (λ t. IsTrue (is_in a t)) syms there))
+      (λ (e : a ≡ row_port x). (
+        WaitCol x,
+        left_is (without a (symbols ms)) r (left (WaitCol x)) (ap (λ t. without a t) syms ∙ ap (λ y. without y (row_port x ∷ col_port x ∷ [])) e ∙ without_first (row_port x) (col_port x)) c.rest,
+        subst (λ y. Goes Idle y (WaitCol x)) (sym e) (row_first x c.within),
+      ))
+      (λ (e : a ≡ col_port x). (
+        WaitRow x,
+        left_is (without a (symbols ms)) r (left (WaitRow x)) (ap (λ t. without a t) syms ∙ ap (λ y. without y (row_port x ∷ col_port x ∷ [])) e ∙ without_second (row_port x) (col_port x) (apart x c.within)) c.rest,
+        subst (λ y. Goes Idle y (WaitRow x)) (sym e) (col_first x c.within),
+      ))
+      (in_two a (row_port x) (col_port x) (subst (λ t. IsTrue (is_in a t)) syms there))
 
   both_opens : (x a : ℕ) (ms : List Mark) (r : TSeq) → FirstOf (answer s.rows (first_out + x)) ms r → IsTrue (is_in a (symbols ms)) → Going (Both x) a (record { pending = without a (symbols ms); rest = r })
   both_opens x a ms r f there =
@@ -163,17 +165,17 @@ module _ (s : Shape) where
   outs_more : (t c d : ℕ → ℕ) (x : ℕ) → x < crossing_count s → Grew c (first_out + x) d → outs_by t d (t x) ≡ suc (outs_by t c (t x))
   outs_more t c d x l g = total_one (crossing_count s) (λ y. if t y == t x then c (first_out + y) else 0) (λ y. if t y == t x then d (first_out + y) else 0) x l
       (let same : (t x == t x) ≡ true = eq-eqb (t x) (t x) refl in
-        ap (λ b. if b then d (first_out + x) else 0) same ∙ g.here ∙ ap (λ b. suc (if b then c (first_out + x) else 0)) (sym same))
+      ap (λ b. if b then d (first_out + x) else 0) same ∙ g.here ∙ ap (λ b. suc (if b then c (first_out + x) else 0)) (sym same))
       (λ y m n. ap (λ k. if t y == t x then k else 0) (g.elsewhere (first_out + y) (λ e. n (omega arith))))
 
   outs_others : (t c d : ℕ → ℕ) (x : ℕ) → Grew c (first_out + x) d → (i : ℕ) → (i ≡ t x → ⊥) → outs_by t d i ≡ outs_by t c i
   outs_others t c d x g i n = total_same (crossing_count s) (λ y. if t y == i then d (first_out + y) else 0) (λ y. if t y == i then c (first_out + y) else 0)
       (λ y l. ⊎_elim
-        (λ (e : y ≡ x).
-            let other : (t y == i) ≡ false = ne_eqb (t y) i (λ z. n (sym z ∙ ap t e)) in
-            ap (λ b. if b then d (first_out + y) else 0) other ∙ sym (ap (λ b. if b then c (first_out + y) else 0) other))
-        (λ (e : y ≡ x → ⊥). ap (λ k. if t y == i then k else 0) (g.elsewhere (first_out + y) (λ z. e (omega arith))))
-        (cases_eq y x))
+      (λ (e : y ≡ x).
+      let other : (t y == i) ≡ false = ne_eqb (t y) i (λ z. n (sym z ∙ ap t e)) in
+      ap (λ b. if b then d (first_out + y) else 0) other ∙ sym (ap (λ b. if b then c (first_out + y) else 0) other))
+      (λ (e : y ≡ x → ⊥). ap (λ k. if t y == i then k else 0) (g.elsewhere (first_out + y) (λ z. e (omega arith))))
+      (cases_eq y x))
 
   abbrev Rows : ((ℕ → (ℕ → ℕ) → (ℕ → ℕ) → (ℕ → ℕ) → (ℕ → ℕ) → Type 0)) → (ℕ → ℕ) → (ℕ → ℕ) → Type 0
   Rows R c d = R s.rows c (row_outs s c) d (row_outs s d)

@@ -17,7 +17,6 @@ use Rattle.cmd_tree.proofs.Phases.{Grew, counts_grow}
 -- Q are the states, with what is left in each, and At is the rule of the counts
 module _ (p : Proc) (Q : Type 0) (left : Q → Left) (Goes : Q → ℕ → Q → Type 0)
     (At : (ℕ → ℕ) → ℕ → Type 0) (Stands : (ℕ → ℕ) → Q → Type 0) where
-
   -- the steps of what is left are those of the states, and the counts stand at them
   pub record Machine (begin : Q) : Type 0 where
     pub begins : left begin ≡ start p
@@ -128,7 +127,7 @@ module _ (p : Proc) (Q : Type 0) (rest : Q → TSeq) (Goes : Q → ℕ → Q →
         let g = k.come q a r h in
         let same : a ≡ g.0.sym.0 = sym g.1 in
         subst (λ l. Step p.body (at_rest q) a l) (left_is (without a (symbols (g.0 ∷ []))) (rest r) r (without_one a g.0.sym.0 same) refl)
-          (opens (at_rest q) a (g.0 ∷ []) (rest r) refl g.2 (one_is_in a g.0.sym.0 same))
+        (opens (at_rest q) a (g.0 ∷ []) (rest r) refl g.2 (one_is_in a g.0.sym.0 same))
 
 -- ---- a command of one process
 
@@ -163,4 +162,3 @@ one_process p A known law t = (forth, back)
           known = all_by (λ x. IsTrue (has_symbol (marks_of_proc p) x)) (λ x. IsTrue (has_symbol (marks_of_all (p ∷ [])) x)) (λ x h. same x ∙ h) t here;
           each = (subst (λ u. TraceOf p u) (sym (filter_all (has_symbol (marks_of_proc p)) t here)) ((law t).1 f), tt);
         }
-

@@ -190,13 +190,13 @@ module _ (k : ℕ) (wide : 2 ≤ k) where
   from_together c a h = ⊎_elim
       (λ l. from_request c a l (h.1 a l (has_request a a refl)))
       (λ g. ⊎_elim
-        (λ e. from_token c a e (h.2 (has_token a e)))
-        (λ d.
-            let i : ℕ = a - (k + 1) in
-            let e : a ≡ k + 1 + i = omega (arith, h.0) in
-            let l : i < k = omega (arith, h.0) in
-            from_grant c a i l e (h.1 i l (has_grant i a e)) (h.2 (has_any_grant a (omega arith, h.0))))
-        (cases_eq a k))
+      (λ e. from_token c a e (h.2 (has_token a e)))
+      (λ d.
+      let i : ℕ = a - (k + 1) in
+      let e : a ≡ k + 1 + i = omega (arith, h.0) in
+      let l : i < k = omega (arith, h.0) in
+      from_grant c a i l e (h.1 i l (has_grant i a e)) (h.2 (has_any_grant a (omega arith, h.0))))
+      (cases_eq a k))
       (cases_lt a k)
 
   to_together : (c : ℕ → ℕ) (a : ℕ) → KindAt (Seq k) c a → Together c a
@@ -231,12 +231,12 @@ module _ (k : ℕ) (wide : 2 ≤ k) where
   seq_forth t h =
       let parts = all_front (λ p. TraceOf p (project p t)) (map (granted k) (range_with_len 0 k)) (grants k ∷ []) h.each in
       let requests : Follows Requests [] t = follows_family (λ i. i < k) (λ i v a. IsTrue (of_request i a) → RequestAt i (counts v) a) t []
-          (λ i l. from_projection (of_request i) (RequestAt i) (request_agree i) t []
-            ((pair_turns (input i) (output (k + 1 + i)) (apart i) (project (granted k i) t)).0 (all_range (λ p. TraceOf p (project p t)) (granted k) 0 k parts.0 i (omega arith) (omega arith)))) in
+      (λ i l. from_projection (of_request i) (RequestAt i) (request_agree i) t []
+      ((pair_turns (input i) (output (k + 1 + i)) (apart i) (project (granted k i) t)).0 (all_range (λ p. TraceOf p (project p t)) (granted k) 0 k parts.0 i (omega arith) (omega arith)))) in
       let tokens : Follows Tokens [] t = from_projection of_token TokenAt token_agree t [] ((token_turns (project (grants k) t)).0 parts.1.0) in
       let ports = each_follows (λ a. IsTrue (has_symbol (marks_of_all (procs_of (Seq k))) a)) t [] h.known in
       follows_by _ (λ u a. KindAt (Seq k) (counts u) a) (λ u a r. from_together (counts u) a (known_in 0 k a (omega arith) r.0, r.1.0, r.1.1)) [] t
-        (follows_both (λ v a. IsTrue (has_symbol (marks_of_all (procs_of (Seq k))) a)) (λ v a. Requests v a × Tokens v a) t [] ports (follows_both Requests Tokens t [] requests tokens))
+      (follows_both (λ v a. IsTrue (has_symbol (marks_of_all (procs_of (Seq k))) a)) (λ v a. Requests v a × Tokens v a) t [] ports (follows_both Requests Tokens t [] requests tokens))
 
   seq_back : (t : List ℕ) → KindFollows (Seq k) t → KindTrace (Seq k) t
   seq_back t f = record {
@@ -247,7 +247,7 @@ module _ (k : ℕ) (wide : 2 ≤ k) where
       requests : AllByRecursion (λ p. TraceOf p (project p t)) (map (granted k) (range_with_len 0 k))
       requests = range_all (λ p. TraceOf p (project p t)) (granted k) 0 k (λ i low high. (pair_turns (input i) (output (k + 1 + i)) (apart i) (project (granted k i) t)).1
           (to_projection (of_request i) (RequestAt i) (request_agree i) t []
-            (follows_by (λ u a. KindAt (Seq k) (counts u) a) (λ v a. IsTrue (of_request i a) → RequestAt i (counts v) a) (λ u a r. (to_together (counts u) a r).1 i (omega (arith, high))) [] t f)))
+          (follows_by (λ u a. KindAt (Seq k) (counts u) a) (λ v a. IsTrue (of_request i a) → RequestAt i (counts v) a) (λ u a r. (to_together (counts u) a r).1 i (omega (arith, high))) [] t f)))
 
       token : TraceOf (grants k) (project (grants k) t)
       token = (token_turns (project (grants k) t)).1 (to_projection of_token TokenAt token_agree t []

@@ -62,7 +62,7 @@ iwire_counts = one_process (again (Then (one (output 1)) (Then (one (input 0)) D
 once_counts : (m : Mark) (A : (ℕ → ℕ) → ℕ → Type 0) → ((c : ℕ → ℕ) (a : ℕ) → A c a ↔ ((a ≡ m.sym.0) × (c m.sym.0 ≡ 0))) → (t : List ℕ) → Trace (once (Then (one m) Done) ∷ []) t ↔ Follows (λ u a. A (counts u) a) [] t
 once_counts m A same = one_process (once (Then (one m) Done)) (λ u a. A (counts u) a) (λ u a h. one_is_in a m.sym.0 ((same (counts u) a).0 h).0)
     (follows_same (λ u a. OnceAt (one m) (λ a. a ≡ m.sym.0) (λ c. c m.sym.0) (counts u) a) (λ u a. A (counts u) a) (λ u a. ((same (counts u) a).1, (same (counts u) a).0)) (λ t. TraceOf (once (Then (one m) Done)) t)
-      (turn_once (one m) (λ a. a ≡ m.sym.0) (λ c. c m.sym.0) (one_opens m) (record { begins = refl; first = λ c d a e g. (subst (λ x. Grew c x d) e g).here }) (one_whole m)))
+    (turn_once (one m) (λ a. a ≡ m.sym.0) (λ c. c m.sym.0) (one_opens m) (record { begins = refl; first = λ c d a e g. (subst (λ x. Grew c x d) e g).here }) (one_whole m)))
 
 pub source_counts : (t : List ℕ) → KindTrace Source t ↔ KindFollows Source t
 source_counts = once_counts (output 0) (KindAt Source) (λ c a. (λ h. h, λ h. h))
@@ -73,7 +73,7 @@ sink_counts = once_counts (input 0) (KindAt Sink) (λ c a. (λ h. h, λ h. h))
 pub toggle_counts : (t : List ℕ) → KindTrace Toggle t ↔ KindFollows Toggle t
 toggle_counts = one_process (again (toggle (input 0) (output 1) (output 2))) (λ u a. KindAt Toggle (counts u) a) known
     (follows_same (λ u a. ToggleAt (input 0) (output 1) (output 2) (counts u) a) (λ u a. KindAt Toggle (counts u) a) (λ u a. (λ h. h, λ h. h)) (λ t. TraceOf (again (toggle (input 0) (output 1) (output 2))) t)
-      (toggle_turns (input 0) (output 1) (output 2) (λ e. omega arith) (λ e. omega arith) (λ e. omega arith)))
+    (toggle_turns (input 0) (output 1) (output 2) (λ e. omega arith) (λ e. omega arith) (λ e. omega arith)))
   where
     known : (u : List ℕ) (a : ℕ) → KindAt Toggle (counts u) a → IsTrue (has_symbol (input 0 ∷ output 1 ∷ input 0 ∷ output 2 ∷ []) a)
     known u a (inl h) = subst (λ x. IsTrue (has_symbol (input 0 ∷ output 1 ∷ input 0 ∷ output 2 ∷ []) x)) (sym h.0) refl
@@ -142,6 +142,7 @@ module _ (n : ℕ) (wide : 2 ≤ n) where
       forth : MergeTurn c a → KindAt (Merge n) c a
       forth (inl h) = inl (omega (arith, h.0), h.1)
       forth (inr h) = inr h
+
       back : KindAt (Merge n) c a → MergeTurn c a
       back (inl h) = inl ((omega arith, omega (arith, h.0)), h.1)
       back (inr h) = inr h
@@ -153,4 +154,4 @@ module _ (n : ℕ) (wide : 2 ≤ n) where
   pub merge_counts : (t : List ℕ) → KindTrace (Merge n) t ↔ KindFollows (Merge n) t
   merge_counts = one_process (again merge) (λ u a. KindAt (Merge n) (counts u) a) merge_known
       (follows_same (λ u a. MergeTurn (counts u) a) (λ u a. KindAt (Merge n) (counts u) a) (λ u a. merge_same (counts u) a) (λ t. TraceOf (again merge) t)
-        (turns (any_one inputs) (one (output n)) merge_in merge_out (total n) (λ c. c n) (range_opens input (λ x. refl) 0 n) (one_opens (output n)) merge_counted (range_item input 0 n wide) (one_whole (output n))))
+      (turns (any_one inputs) (one (output n)) merge_in merge_out (total n) (λ c. c n) (range_opens input (λ x. refl) 0 n) (one_opens (output n)) merge_counted (range_item input 0 n wide) (one_whole (output n))))

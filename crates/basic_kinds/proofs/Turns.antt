@@ -179,12 +179,21 @@ module _ (i l m : Mark) where
       ⊎ (((a ≡ l.sym.0) × (c l.sym.0 + c m.sym.0 < c i.sym.0) × (c l.sym.0 ≡ c m.sym.0))
       ⊎ ((a ≡ m.sym.0) × (c l.sym.0 + c m.sym.0 < c i.sym.0) × (c l.sym.0 ≡ suc (c m.sym.0))))
 
+  -- what comes next in each state, and the state after it
+  abbrev mark_at : Quarter → Mark
+  mark_at Q0 = i
+  mark_at Q1 = l
+  mark_at Q2 = i
+  mark_at Q3 = m
+
+  abbrev turned : Quarter → Quarter
+  turned Q0 = Q1
+  turned Q1 = Q2
+  turned Q2 = Q3
+  turned Q3 = Q0
+
   abbrev GoesToggle : Quarter → ℕ → Quarter → Type 0
-  GoesToggle Q0 a Q1 = a ≡ i.sym.0
-  GoesToggle Q1 a Q2 = a ≡ l.sym.0
-  GoesToggle Q2 a Q3 = a ≡ i.sym.0
-  GoesToggle Q3 a Q0 = a ≡ m.sym.0
-  GoesToggle q a r = ⊥
+  GoesToggle q a r = (a ≡ (mark_at q).sym.0) × (r ≡ turned q)
 
   abbrev StandsToggle : (ℕ → ℕ) → Quarter → Type 0
   StandsToggle c Q0 = (c i.sym.0 ≡ c l.sym.0 + c m.sym.0) × (c l.sym.0 ≡ c m.sym.0)
@@ -199,39 +208,46 @@ module _ (i l m : Mark) where
     singles_toggle : Singles proc_toggle Quarter rest_toggle GoesToggle
     singles_toggle = record { next = next; come = come }
       where
-        next : (q : Quarter) (ms : List Mark) (s : TSeq) → Next (Some toggle) (rest_toggle q) ms s → (x : Mark) × (ms ≡ x ∷ []) × (r : Quarter) × (s ≡ rest_toggle r) × GoesToggle q x.sym.0 r
-        next Q0 ms s h = (i, h.1.0, Q1, h.2 ∙ ap (λ q. join q (rest_toggle Q1)) h.1.1, refl)
-        next Q1 ms s h = (l, h.1.0, Q2, h.2 ∙ ap (λ q. join q (rest_toggle Q2)) h.1.1, refl)
-        next Q2 ms s h = (i, h.1.0, Q3, h.2 ∙ ap (λ q. join q (rest_toggle Q3)) h.1.1, refl)
-        next Q3 ms s h = (m, h.1.0, Q0, h.2 ∙ ap (λ q. join q Done) h.1.1, refl)
+        next : (q : Quarter) (ms : List Mark) (s : TSeq) → Next (Some toggle) (rest_toggle q) ms s
+            → (x : Mark) × (ms ≡ x ∷ []) × (r : Quarter) × (s ≡ rest_toggle r) × GoesToggle q x.sym.0 r
+        next Q0 ms s h = (i, h.1.0, Q1, h.2 ∙ ap (λ q. join q (rest_toggle Q1)) h.1.1, (refl, refl))
+        next Q1 ms s h = (l, h.1.0, Q2, h.2 ∙ ap (λ q. join q (rest_toggle Q2)) h.1.1, (refl, refl))
+        next Q2 ms s h = (i, h.1.0, Q3, h.2 ∙ ap (λ q. join q (rest_toggle Q3)) h.1.1, (refl, refl))
+        next Q3 ms s h = (m, h.1.0, Q0, h.2 ∙ ap (λ q. join q Done) h.1.1, (refl, refl))
 
-        come : (q : Quarter) (a : ℕ) (r : Quarter) → GoesToggle q a r → (x : Mark) × (x.sym.0 ≡ a) × Next (Some toggle) (rest_toggle q) (x ∷ []) (rest_toggle r)
-        come Q0 a Q1 h = (i, sym h, (Done, (refl, refl), refl))
-        come Q1 a Q2 h = (l, sym h, (Done, (refl, refl), refl))
-        come Q2 a Q3 h = (i, sym h, (Done, (refl, refl), refl))
-        come Q3 a Q0 h = (m, sym h, (Done, (refl, refl), refl))
-        come Q0 a Q0 h = absurd h
-        come Q0 a Q2 h = absurd h
-        come Q0 a Q3 h = absurd h
-        come Q1 a Q0 h = absurd h
-        come Q1 a Q1 h = absurd h
-        come Q1 a Q3 h = absurd h
-        come Q2 a Q0 h = absurd h
-        come Q2 a Q1 h = absurd h
-        come Q2 a Q2 h = absurd h
-        come Q3 a Q1 h = absurd h
-        come Q3 a Q2 h = absurd h
-        come Q3 a Q3 h = absurd h
+        first : (q : Quarter) → Next (Some toggle) (rest_toggle q) (mark_at q ∷ []) (rest_toggle (turned q))
+        first Q0 = (Done, (refl, refl), refl)
+        first Q1 = (Done, (refl, refl), refl)
+        first Q2 = (Done, (refl, refl), refl)
+        first Q3 = (Done, (refl, refl), refl)
 
-    -- the counts after one more of each of the three
-    after_i : (c d : ℕ → ℕ) (a : ℕ) → a ≡ i.sym.0 → Grew c a d → (d i.sym.0 ≡ suc (c i.sym.0)) × (d l.sym.0 ≡ c l.sym.0) × (d m.sym.0 ≡ c m.sym.0)
-    after_i c d a e g = let h = subst (λ x. Grew c x d) e g in (h.here, h.elsewhere l.sym.0 (λ z. il (sym z)), h.elsewhere m.sym.0 (λ z. im (sym z)))
+        come : (q : Quarter) (a : ℕ) (r : Quarter) → GoesToggle q a r
+            → (x : Mark) × (x.sym.0 ≡ a) × Next (Some toggle) (rest_toggle q) (x ∷ []) (rest_toggle r)
+        come q a r h = (mark_at q, sym h.0, subst (λ x. Next (Some toggle) (rest_toggle q) (mark_at q ∷ []) (rest_toggle x)) (sym h.1) (first q))
 
-    after_l : (c d : ℕ → ℕ) (a : ℕ) → a ≡ l.sym.0 → Grew c a d → (d l.sym.0 ≡ suc (c l.sym.0)) × (d i.sym.0 ≡ c i.sym.0) × (d m.sym.0 ≡ c m.sym.0)
-    after_l c d a e g = let h = subst (λ x. Grew c x d) e g in (h.here, h.elsewhere i.sym.0 il, h.elsewhere m.sym.0 (λ z. lm (sym z)))
-
-    after_m : (c d : ℕ → ℕ) (a : ℕ) → a ≡ m.sym.0 → Grew c a d → (d m.sym.0 ≡ suc (c m.sym.0)) × (d i.sym.0 ≡ c i.sym.0) × (d l.sym.0 ≡ c l.sym.0)
-    after_m c d a e g = let h = subst (λ x. Grew c x d) e g in (h.here, h.elsewhere i.sym.0 im, h.elsewhere l.sym.0 lm)
+    -- each mark that comes leaves the counts of the two others
+    pub after : (c d : ℕ → ℕ) (q : Quarter) → StandsToggle c q → Grew c (mark_at q).sym.0 d
+        → ToggleAt c (mark_at q).sym.0 × StandsToggle d (turned q)
+    after c d Q0 s g =
+        let h = g.here in
+        let u = g.elsewhere l.sym.0 (λ z. il (sym z)) in
+        let v = g.elsewhere m.sym.0 (λ z. im (sym z)) in
+        (inl (refl, s.0), (omega (arith, s, h, u, v), omega (arith, s, u, v)))
+    after c d Q1 s g =
+        let h = g.here in
+        let u = g.elsewhere i.sym.0 il in
+        let v = g.elsewhere m.sym.0 (λ z. lm (sym z)) in
+        (inr (inl (refl, omega (arith, s), s.1)), (omega (arith, s, h, u, v), omega (arith, s, h, u, v)))
+    after c d Q2 s g =
+        let h = g.here in
+        let u = g.elsewhere l.sym.0 (λ z. il (sym z)) in
+        let v = g.elsewhere m.sym.0 (λ z. im (sym z)) in
+        (inl (refl, s.0), (omega (arith, s, h, u, v), omega (arith, s, u, v)))
+    after c d Q3 s g =
+        let h = g.here in
+        let u = g.elsewhere i.sym.0 im in
+        let v = g.elsewhere l.sym.0 lm in
+        (inr (inr (refl, omega (arith, s), s.1)), (omega (arith, s, h, u, v), omega (arith, s, h, u, v)))
 
     machine_toggle : Machine proc_toggle Quarter (at_rest proc_toggle Quarter rest_toggle GoesToggle) GoesToggle ToggleAt StandsToggle Q0
     machine_toggle = record {
@@ -243,36 +259,23 @@ module _ (i l m : Mark) where
     }
       where
         sound : (c d : ℕ → ℕ) (q : Quarter) (a : ℕ) (r : Quarter) → StandsToggle c q → GoesToggle q a r → Grew c a d → ToggleAt c a × StandsToggle d r
-        sound c d Q0 a Q1 s h g = let n = after_i c d a h g in (inl (h, s.0), (omega (arith, s, n), omega (arith, s, n)))
-        sound c d Q1 a Q2 s h g = let n = after_l c d a h g in (inr (inl (h, omega (arith, s), s.1)), (omega (arith, s, n), omega (arith, s, n)))
-        sound c d Q2 a Q3 s h g = let n = after_i c d a h g in (inl (h, s.0), (omega (arith, s, n), omega (arith, s, n)))
-        sound c d Q3 a Q0 s h g = let n = after_m c d a h g in (inr (inr (h, omega (arith, s), s.1)), (omega (arith, s, n), omega (arith, s, n)))
-        sound c d Q0 a Q0 s h g = absurd h
-        sound c d Q0 a Q2 s h g = absurd h
-        sound c d Q0 a Q3 s h g = absurd h
-        sound c d Q1 a Q0 s h g = absurd h
-        sound c d Q1 a Q1 s h g = absurd h
-        sound c d Q1 a Q3 s h g = absurd h
-        sound c d Q2 a Q0 s h g = absurd h
-        sound c d Q2 a Q1 s h g = absurd h
-        sound c d Q2 a Q2 s h g = absurd h
-        sound c d Q3 a Q1 s h g = absurd h
-        sound c d Q3 a Q2 s h g = absurd h
-        sound c d Q3 a Q3 s h g = absurd h
+        sound c d q a r s h g =
+            let k = after c d q s (subst (λ x. Grew c x d) h.0 g) in
+            (subst (λ x. ToggleAt c x) (sym h.0) k.0, subst (λ x. StandsToggle d x) (sym h.1) k.1)
 
     ready_toggle : Ready proc_toggle Quarter (at_rest proc_toggle Quarter rest_toggle GoesToggle) GoesToggle ToggleAt StandsToggle
-    ready_toggle c Q0 a s (inl h) = (Q1, h.0)
+    ready_toggle c Q0 a s (inl h) = (Q1, (h.0, refl))
     ready_toggle c Q0 a s (inr (inl h)) = absurd (omega (arith, s, h.1))
     ready_toggle c Q0 a s (inr (inr h)) = absurd (omega (arith, s, h.1))
     ready_toggle c Q1 a s (inl h) = absurd (omega (arith, s, h.1))
-    ready_toggle c Q1 a s (inr (inl h)) = (Q2, h.0)
+    ready_toggle c Q1 a s (inr (inl h)) = (Q2, (h.0, refl))
     ready_toggle c Q1 a s (inr (inr h)) = absurd (omega (arith, s, h.2))
-    ready_toggle c Q2 a s (inl h) = (Q3, h.0)
+    ready_toggle c Q2 a s (inl h) = (Q3, (h.0, refl))
     ready_toggle c Q2 a s (inr (inl h)) = absurd (omega (arith, s, h.1))
     ready_toggle c Q2 a s (inr (inr h)) = absurd (omega (arith, s, h.1))
     ready_toggle c Q3 a s (inl h) = absurd (omega (arith, s, h.1))
     ready_toggle c Q3 a s (inr (inl h)) = absurd (omega (arith, s, h.2))
-    ready_toggle c Q3 a s (inr (inr h)) = (Q0, h.0)
+    ready_toggle c Q3 a s (inr (inr h)) = (Q0, (h.0, refl))
 
     one_whole : (x : Mark) → IsItem (one x)
     one_whole x = omega arith
