@@ -6,3 +6,5 @@ pub mod Relabel
 pub mod Rounds
 pub mod Paths
 pub mod Linked
+pub mod Among
+pub mod Routes
