@@ -8,7 +8,8 @@ use Rattle.cmd_tree.specs.declared.tree.Dir.{Dir}
 use Rattle.cmd_tree.specs.declared.tree.Dir.TheVariants.{Input, Output}
 use Rattle.cmd_tree.specs.Limits.{IsNumbered}
 use Rattle.cmd_text.specs.Canonical.{sign}
-use Rattle.net_core.specs.Specs.{gives_symbol, is_output}
+use Rattle.cmd_tree.specs.Marks.{is_output}
+use Rattle.net_core.specs.Specs.{gives_symbol}
 use Rattle.text_lines.specs.Lines.{numbered_line}
 use Rattle.di_io.specs.Printing.{Printing, prints}
 use Rattle.di_io.proofs.Prints.{prints_twice, prints_none}
