@@ -14,7 +14,8 @@ use Rattle.cmd_text.specs.Token.{Token}
 use Rattle.cmd_text.specs.Names.{number_in}
 use Rattle.cmd_text.specs.Fault.{Fault, Unexpected, TooDeep}
 use Rattle.cmd_text.specs.Scan.{Scanned, Between, scan}
-use Rattle.cmd_text.specs.Mirror.ScanView.{token_of, after, with_found, with_refusal, fault_of, IsPast}
+use Rattle.cmd_text.specs.Mirror.ScanView.{token_of, after, with_found, with_refusal, IsPast}
+use Rattle.cmd_text.specs.Source.{fault_of}
 use Rattle.cmd_text.specs.contracts.token.Token.{the_type}
 use denote.Enum.Bare.{sameb}
 use Rattle.cmd_text.specs.declared.file.Sentence.{Sentence}
@@ -121,17 +122,6 @@ module _ (ns ms : List (List ℕ)) (q : Partly) (s : State) (from : ℕ) (bs : L
 pub token_past : (number : List ℕ → ℕ) (s u : State) (f : Found) (bs : List ℕ) (x : Token) (from : ℕ) → x ≡ token_of f.token (slice_range bs f.at f.next) → machine.step number s x ≡ Some u → IsPast f from → from < f.next
 token_past number s u f bs x from same e p = past_token f from (not_end number s u f.token (slice_range bs f.at f.next) (subst (λ y. machine.step number s y ≡ Some u) same e)) p
 
--- what is read as long as the process is not closed
-pub still_within : (q : Partly) (d : Draft) → (d.mode ≡ mode.Closed → ⊥) → put q (state_of d) ≡ InProcess q (state_of d)
-still_within q d h = by d.mode h
-  where
-    by : (m : mode_type.Mode) → (m ≡ mode.Closed → ⊥) → put q (state_at m d) ≡ InProcess q (state_at m d)
-    by mode.Closed k = absurd (k refl)
-    by m k = refl
-
-pub closed_now : (q : Partly) (d : Draft) → d.mode ≡ mode.Closed → put q (state_of d) ≡ AfterFactor (with_factor q (Own (proc_of (record { lead = lead_of d; body = alts_of d }))))
-closed_now q d e = ap (λ m. put q (state_at m d)) e
-
 -- ---- a token outside of processes
 hear_outside : (ns : List (List ℕ)) (s : Spot) (x : Token) → (IsWithin s → ⊥) → hear ns s x ≡ ns
 hear_outside ns (InProcess q s) x h = absurd (h tt)
@@ -152,10 +142,6 @@ module _ (s : Spot) (from : ℕ) (bs : List ℕ) (f : Found) (x : Token)
   pub spot_passed : (p : ℕ) → p ≡ f.at → (ss : List Sentence) (t : spot_type.Spot) → ((number : List ℕ → ℕ) → step number s x (Some p) ≡ Some (spot_of ss t)) → (ns : List (List ℕ)) → answer_from ns s from bs ≡ answer_behind (is_end f.token) ns (spot_of ss t) f.next bs
   spot_passed p a ss t e ns = passed_here ns ns s (spot_of ss t) from bs f scanned (sym (hear_outside ns s (token_of f.token (slice_range bs f.at f.next)) outside)) (stepped_so (number_in ns) p a (Some (spot_of ss t)) (e (number_in ns))) (ap (λ n. nat_lt 64 n) (none_open ss t))
 
-pub not_within : (ss : List Sentence) (t : spot_type.Spot) → ((q : code_partly.Partly) → t ≡ spot.Process q → ⊥) → IsWithin (spot_of ss t) → ⊥
-not_within ss (spot.Process q) h w = h q refl
-not_within ss t h w = w
-
 -- ---- at most one name more
 more_by : (ns : List (List ℕ)) (n : List ℕ) (b : Bool) → length (if b then ns else ns ++ n ∷ []) ≤ length ns + 1
 more_by ns n true = omega arith
@@ -164,4 +150,3 @@ more_by ns n false = omega (arith, length-append ns (n ∷ []))
 pub heard_more : (ns : List (List ℕ)) (o : Option (List ℕ)) → length (with_heard ns o) ≤ length ns + 1
 heard_more ns None = omega arith
 heard_more ns (Some n) = more_by ns n (list_any (bytes_eq n) ns)
-

@@ -1,5 +1,5 @@
 -- A step of the reader: what it has read is spelled by written sentences, whose values it has built.
-use Rattle.std.proofs.Common.{◌≡◌, ℕ, ◌<◌, List, [], ◌∷◌, ◌++◌, map, length, Option, Some, None, refl, sym, ◌∙◌, ap, subst, arith}
+use Rattle.std.proofs.Common.{◌≡◌, ℕ, ◌<◌, List, [], ◌∷◌, ◌++◌, map, length, Option, Some, None, refl, sym, ◌∙◌, ap, subst, arith, append_assoc, append-nil}
 use Rattle.std.specs.Prelude.{⊤}
 use Rattle.std.specs.Option.{IfSome, option_map}
 use Rattle.std.specs.List.{AllByRecursion}
@@ -19,14 +19,6 @@ use Rattle.cmd_text.proofs.ProcessSound.{Good, before, Step, Knows, one_step}
 pub push-assoc : {A : Type 0} → (xs : List A) (x : A) (rs : List A) → (xs ++ x ∷ []) ++ rs ≡ xs ++ x ∷ rs
 push-assoc [] x rs = refl
 push-assoc (y ∷ xs) x rs = ap (λ u. y ∷ u) (push-assoc xs x rs)
-
-pub cat-assoc : {A : Type 0} → (xs ys rs : List A) → (xs ++ ys) ++ rs ≡ xs ++ (ys ++ rs)
-cat-assoc [] ys rs = refl
-cat-assoc (y ∷ xs) ys rs = ap (λ u. y ∷ u) (cat-assoc xs ys rs)
-
-pub cat-nil : {A : Type 0} → (xs : List A) → xs ++ [] ≡ xs
-cat-nil [] = refl
-cat-nil (y ∷ xs) = ap (λ u. y ∷ u) (cat-nil xs)
 
 map-push : {A B : Type 0} → (f : A → B) (xs : List A) (x : A) → map f (xs ++ x ∷ []) ≡ map f xs ++ f x ∷ []
 map-push f [] x = refl
@@ -60,7 +52,7 @@ match_plain (x ∷ xs) r rs m = (refl, tt, match_plain xs r rs m)
 
 says_plain : (B : List Hint → List Hint) (xs : List Placed) (p : Placed) (ys : List Placed) (ts : List Token) → Says B xs → p.tok ≡ Pref → tokens ys ≡ ts → Says (λ r. B (any Pref ∷ plain ts r)) (xs ++ p ∷ ys)
 says_plain B xs p ys ts s e g = record {
-  says = λ r rs m. subst (λ u. Match (B (any Pref ∷ plain ts r)) u) (sym (cat-assoc xs (p ∷ ys) rs))
+  says = λ r rs m. subst (λ u. Match (B (any Pref ∷ plain ts r)) u) (sym (append_assoc xs (p ∷ ys) rs))
       (s.says (any Pref ∷ plain ts r) (p ∷ (ys ++ rs)) (e, tt, subst (λ u. Match (plain u r) (ys ++ rs)) g (match_plain ys r rs m)));
 }
 
@@ -250,7 +242,7 @@ module _ (name : ℕ → List ℕ) where
         built = d.part.built;
         factors = d.part.factors;
         says = subst (λ u. Says (λ r. in_sentence q (λ ps v. pieces_before ps (piece name (Process w) v)) d.part.defs d.part.pieces r) u) (sym d.split)
-            (says_plain (λ r. in_sentence q pieces_before d.part.defs d.part.pieces r) d.first d.pref d.rest (process name w.lead w.body []) d.part.says d.is_pref (sym (cat-nil (tokens d.rest)) ∙ d.spelled []));
+            (says_plain (λ r. in_sentence q pieces_before d.part.defs d.part.pieces r) d.first d.pref d.rest (process name w.lead w.body []) d.part.says d.is_pref (sym (append-nil (tokens d.rest)) ∙ d.spelled []));
       })
       d.good
   put_told q s xs d = d
@@ -264,7 +256,7 @@ module _ (name : ℕ → List ℕ) where
     first = d.first;
     pref = d.pref;
     rest = d.rest ++ x ∷ [];
-    split = ap (λ u. u ++ x ∷ []) d.split ∙ cat-assoc d.first (d.pref ∷ d.rest) (x ∷ []);
+    split = ap (λ u. u ++ x ∷ []) d.split ∙ append_assoc d.first (d.pref ∷ d.rest) (x ∷ []);
     is_pref = d.is_pref;
     part = d.part;
     spelled = λ r. tokens-push d.rest x r ∙ d.spelled (x.tok ∷ r) ∙ g.0 r;

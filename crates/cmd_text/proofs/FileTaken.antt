@@ -1,5 +1,5 @@
 -- The tokens of a written file are taken by the reader, which builds its sentences.
-use Rattle.std.proofs.Common.{◌≡◌, ℕ, List, [], ◌∷◌, ◌++◌, map, Option, Some, None, refl, sym, ◌∙◌, ap, subst, arith}
+use Rattle.std.proofs.Common.{◌≡◌, ℕ, List, [], ◌∷◌, ◌++◌, map, Option, Some, None, refl, sym, ◌∙◌, ap, subst, arith, append-nil}
 use Rattle.std.specs.Option.{option_and_then, option_map}
 use Rattle.std.specs.List.{AllByRecursion}
 use Rattle.cmd_text.specs.declared.file.Sentence.{Sentence}
@@ -12,7 +12,7 @@ use Rattle.cmd_text.specs.Mirror.Machine.{State, AtForm, AtBody, AtItem, AtMark,
 use Rattle.cmd_text.specs.Mirror.Machine as machine
 use Rattle.cmd_text.specs.Mirror.Reader.{Partly, Spot, AtSentence, AtName, AtDefine, AtFactor, InProcess, AfterName, AtFresh, AtSlash, AtWas, AfterPair, AfterFactor, AtEnd, Finished, with_factor, with_rename, put, ended, step}
 use Rattle.cmd_text.proofs.ProcessTaken.{run, process_taken}
-use Rattle.cmd_text.proofs.FileSound.{push-assoc, cat-nil}
+use Rattle.cmd_text.proofs.FileSound.{push-assoc}
 
 pub nothing : {A : Type 0} {x : A} {P : Type 0} → None ≡ Some x → P
 nothing e = absurd (cc)
@@ -112,7 +112,7 @@ module _ (number : List ℕ → ℕ) where
   par_after q (Call n) = par_call q n.name n.at n.renames
 
   more_pairs_taken : (q : Partly) (u : Use) (ps : List Rename) (r : List Hint) → hrun (AfterPair q u) (more_pairs ps (any RightSq ∷ r)) ≡ hrun (AfterFactor (with_factor q (Named (record u { renames = u.renames ++ ps })))) r
-  more_pairs_taken q u [] r = ap (λ v. hrun (AfterFactor (with_factor q (Named (record u { renames = v })))) r) (sym (cat-nil u.renames))
+  more_pairs_taken q u [] r = ap (λ v. hrun (AfterFactor (with_factor q (Named (record u { renames = v })))) r) (sym (append-nil u.renames))
   more_pairs_taken q u (p ∷ ps) r = more_pairs_taken q (with_rename u p) ps r ∙ ap (λ v. hrun (AfterFactor (with_factor q (Named (record u { renames = v })))) r) (push-assoc u.renames p ps)
 
   pairs_taken : (q : Partly) (n : List ℕ) (p : ℕ) (rs : List Rename) (r : List Hint) → hrun (AfterName q (use_of n p [])) (pairs rs r) ≡ hrun (after_call q n p rs) r
@@ -140,7 +140,7 @@ module _ (number : List ℕ → ℕ) where
         ∙ more_pieces_taken (record { before = ss; head = h; factors = [] }) p ps r g.1.1
 
     definitions_taken : (ss : List Sentence) (ds : List Definition) (r : List Hint) → AllByRecursion IsDefinition ds → hrun (AtSentence ss) (definitions name ds r) ≡ hrun (AtSentence (ss ++ map defined ds)) r
-    definitions_taken ss [] r g = ap (λ v. hrun (AtSentence v) r) (sym (cat-nil ss))
+    definitions_taken ss [] r g = ap (λ v. hrun (AtSentence v) r) (sym (append-nil ss))
     definitions_taken ss (d ∷ ds) r g = sentence_taken ss (head_of d) d.pieces (definitions name ds r) g.0
         ∙ definitions_taken (ss ++ defined d ∷ []) ds r g.1
         ∙ ap (λ v. hrun (AtSentence v) r) (push-assoc ss (defined d) (map defined ds))

@@ -8,6 +8,7 @@ pub mod ReaderSteps
 pub mod Completed
 pub mod Verdicts
 pub mod Scanned
+pub mod Tokenized
 pub mod ReadExactly
 pub mod Cuts
 pub mod MainTokens

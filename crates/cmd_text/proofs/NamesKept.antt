@@ -1,5 +1,5 @@
 -- The names that the reader keeps, and their numbers.
-use Rattle.std.proofs.Common.{◌≡◌, ℕ, zero, suc, Bool, true, false, ◌||◌, ◌&&◌, List, [], ◌∷◌, ◌++◌, Option, Some, None, refl, sym, ◌∙◌, ap, ◌⊎◌, inl, inr}
+use Rattle.std.proofs.Common.{◌≡◌, ℕ, zero, suc, Bool, true, false, ◌||◌, ◌&&◌, List, [], ◌∷◌, ◌++◌, Option, Some, None, refl, sym, ◌∙◌, ap, ◌⊎◌, inl, inr, append_assoc, append-nil}
 use Rattle.std.specs.Prelude.{⊤, IsTrue, if◌then◌else◌}
 use Rattle.std.specs.List.{AllByRecursion, list_any}
 use Rattle.std.specs.Str.{bytes_eq}
@@ -12,7 +12,6 @@ use Rattle.cmd_text.specs.File.{Placed}
 use Rattle.cmd_text.specs.Names.{name_in, number_in, with_word, noted, names_after, IsProper}
 use Rattle.cmd_text.specs.Text.{tokens, IsWord, IsToken}
 use Rattle.cmd_text.specs.Mirror.Reading.{with_heard}
-use Rattle.cmd_text.proofs.FileSound.{cat-assoc, cat-nil}
 
 pub true_false : {P : Type 0} → true ≡ false → P
 true_false e = absurd (cc)
@@ -51,14 +50,14 @@ pub record Grew (ns ms : List (List ℕ)) : Type 0 where
   pub is : ms ≡ ns ++ more
 
 grew_none : (ns : List (List ℕ)) → Grew ns ns
-grew_none ns = record { more = []; is = sym (cat-nil ns) }
+grew_none ns = record { more = []; is = sym (append-nil ns) }
 
 grew_insert : (ns : List (List ℕ)) (n : List ℕ) (b : Bool) → Grew ns (if b then ns else ns ++ n ∷ [])
 grew_insert ns n true = grew_none ns
 grew_insert ns n false = record { more = n ∷ []; is = refl }
 
 grew_then : (ns ms ks : List (List ℕ)) → Grew ns ms → Grew ms ks → Grew ns ks
-grew_then ns ms ks g h = record { more = g.more ++ h.more; is = h.is ∙ ap (λ u. u ++ h.more) g.is ∙ cat-assoc ns g.more h.more }
+grew_then ns ms ks g h = record { more = g.more ++ h.more; is = h.is ∙ ap (λ u. u ++ h.more) g.is ∙ append_assoc ns g.more h.more }
 
 grew_word : (ns : List (List ℕ)) (p : Token) → Grew ns (with_word ns p)
 grew_word ns (Word n) = grew_insert ns n (is_in n ns)

@@ -1,5 +1,5 @@
 -- The names of a text of `main` alone are numbered by first occurrence in its processes, and are names.
-use Rattle.std.proofs.Common.{◌≡◌, ℕ, suc, ◌+◌, ◌≤◌, ◌<◌, Bool, true, false, ◌||◌, List, [], ◌∷◌, ◌++◌, map, length, max, Option, Some, None, refl, sym, ◌∙◌, ap, subst, arith}
+use Rattle.std.proofs.Common.{◌≡◌, ℕ, suc, ◌+◌, ◌≤◌, ◌<◌, Bool, true, false, ◌||◌, List, [], ◌∷◌, ◌++◌, map, length, max, Option, Some, None, refl, sym, ◌∙◌, ap, subst, arith, append_assoc, append-nil}
 use Rattle.std.specs.Prelude.{⊤, IsTrue, if◌then◌else◌}
 use Rattle.std.specs.List.{AllByRecursion}
 use Rattle.std.specs.Str.{bytes_eq}
@@ -15,7 +15,7 @@ use Rattle.cmd_text.specs.Process.{sign_of, mark, more_marks, burst, seq, more, 
 use Rattle.cmd_text.specs.Names.{name_in, number_in, with_word, noted, names_after}
 use Rattle.cmd_text.specs.File.{Placed}
 use Rattle.cmd_text.specs.Text.{tokens, IsWord, IsToken}
-use Rattle.cmd_text.proofs.FileSound.{cat-assoc, cat-nil, all-push}
+use Rattle.cmd_text.proofs.FileSound.{all-push}
 use Rattle.cmd_text.proofs.NamesKept.{true_false, is_in, in_inserted, Grew, Apart, member-number, number_name}
 use Rattle.cmd_text.proofs.MainTokens.{more_written, all_written}
 
@@ -94,8 +94,8 @@ module _ (name : ℕ → List ℕ) where
 
   body_marks : (body : TSeqs) → marks_among body ≡ marks_of (body_of body)
   body_marks Stop = refl
-  body_marks (Or s Stop) = cat-nil (marks_of s)
-  body_marks (Or s (Or t ss)) = sym (cat-nil (marks_among (Or s (Or t ss))))
+  body_marks (Or s Stop) = append-nil (marks_of s)
+  body_marks (Or s (Or t ss)) = sym (append-nil (marks_among (Or s (Or t ss))))
 
   star_hears : (body : TSeqs) (ns : List (List ℕ)) (r : List Token) → names_after ns Dot (Star ∷ LeftSq ∷ among name body (RightSq ∷ r)) ≡ names_after (learned ns (marks_of (body_of body))) Dot r
   star_hears body ns r = passed ns LeftSq (among name body (RightSq ∷ r)) tt ∙ among_hears body ns (RightSq ∷ r) ∙ passed (learned ns (marks_among body)) RightSq r tt
@@ -125,14 +125,14 @@ module _ (name : ℕ → List ℕ) where
 
   -- ---- names only grow
   grew_insert : (ns : List (List ℕ)) (n : List ℕ) (b : Bool) → Grew ns (if b then ns else ns ++ n ∷ [])
-  grew_insert ns n true = record { more = []; is = sym (cat-nil ns) }
+  grew_insert ns n true = record { more = []; is = sym (append-nil ns) }
   grew_insert ns n false = record { more = n ∷ []; is = refl }
 
   grew_then : (ns ms ks : List (List ℕ)) → Grew ns ms → Grew ms ks → Grew ns ks
-  grew_then ns ms ks g h = record { more = g.more ++ h.more; is = h.is ∙ ap (λ u. u ++ h.more) g.is ∙ cat-assoc ns g.more h.more }
+  grew_then ns ms ks g h = record { more = g.more ++ h.more; is = h.is ∙ ap (λ u. u ++ h.more) g.is ∙ append_assoc ns g.more h.more }
 
   grew_learned : (ms : List Mark) (ns : List (List ℕ)) → Grew ns (learned ns ms)
-  grew_learned [] ns = record { more = []; is = sym (cat-nil ns) }
+  grew_learned [] ns = record { more = []; is = sym (append-nil ns) }
   grew_learned (m ∷ ms) ns = grew_then ns (insert_key bytes_eq ns (name m.sym.0)) (learned ns (m ∷ ms)) (grew_insert ns (name m.sym.0) (is_in (name m.sym.0) ns)) (grew_learned ms (insert_key bytes_eq ns (name m.sym.0)))
 
 -- ---- the number of a name that is there, and of a new one

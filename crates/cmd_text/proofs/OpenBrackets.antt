@@ -82,9 +82,6 @@ module _ (name : ℕ → List ℕ) where
         (both_fit (brackets_of s) (brackets_among ss) n a.0 b.0, b.1)
 
   -- a body that is one choice alone has the brackets of its alternatives
-  max_left : (a b : ℕ) → a ≤ max a b
-  max_left a b = omega arith
-
   bare : (s : TSeq) → brackets_of_body s ≤ brackets_of s
   bare Done = omega arith
   bare (Then (TAlt ss) Done) = omega arith

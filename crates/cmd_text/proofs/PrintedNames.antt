@@ -1,5 +1,5 @@
 -- The names of a command are the different words before `?` and `!` in its canonical text, in order.
-use Rattle.std.proofs.Common.{◌≡◌, ℕ, zero, suc, ◌+◌, ◌≤◌, ◌<◌, true, false, ◌||◌, List, [], ◌∷◌, ◌++◌, map, length, max, refl, sym, ◌∙◌, ap, subst, ◌⊎◌, inl, inr, arith}
+use Rattle.std.proofs.Common.{◌≡◌, ℕ, zero, suc, ◌+◌, ◌≤◌, ◌<◌, true, false, ◌||◌, List, [], ◌∷◌, ◌++◌, map, length, max, refl, sym, ◌∙◌, ap, subst, ◌⊎◌, inl, inr, arith, append_assoc, append-nil}
 use Rattle.std.specs.Prelude.{if◌then◌else◌}
 use Rattle.std.specs.List.{AllByRecursion, IsDistinct}
 use Rattle.std.specs.Str.{bytes_eq}
@@ -12,7 +12,6 @@ use Rattle.cmd_tree.specs.declared.tree.Proc.{Proc}
 use Rattle.cmd_tree.specs.Limits.{marks_of_all, IsNumbered, IsCommand}
 use Rattle.cmd_text.specs.Token.{Main, Define, Dot, End}
 use Rattle.cmd_text.specs.Names.{name_in, names_after}
-use Rattle.cmd_text.proofs.FileSound.{cat-assoc, cat-nil}
 use Rattle.cmd_text.proofs.NamesKept.{is_in}
 use Rattle.cmd_text.proofs.MainTokens.{all_written}
 use Rattle.cmd_text.proofs.Numbered.{learned, main_hears, push_length}
@@ -62,7 +61,7 @@ long (m ∷ ns) n rest = omega (arith, long ns n rest)
 -- ---- the first names are learned: the marks teach the others, in order
 module _ (names : List (List ℕ)) (distinct : IsDistinct bytes_eq names) where
   all_learned : (ns rest : List (List ℕ)) → names ≡ ns ++ rest → length ns ≡ length names → ns ≡ names
-  all_learned ns [] e h = sym (cat-nil ns) ∙ sym e
+  all_learned ns [] e h = sym (append-nil ns) ∙ sym e
   all_learned ns (n ∷ rest) e h = let l : length names ≡ length (ns ++ n ∷ rest) = ap length e in absurd (omega (arith, l, h, long ns n rest))
 
   old_learned : (m : Mark) (ms : List Mark) (ns rest : List (List ℕ)) → names ≡ ns ++ rest → m.sym.0 < length ns → learned (name_in names) ns ms ≡ names → learned (name_in names) ns (m ∷ ms) ≡ names
@@ -86,10 +85,10 @@ module _ (names : List (List ℕ)) (distinct : IsDistinct bytes_eq names) where
       next r f (inl l) rec = old_learned m ms ns r f l (rec ns r f (same_numbers (max (length ns) (m.sym.0 + 1)) (length ns) (length names) ms (omega (arith, l)) h.1))
       next [] f (inr l) rec =
           let few : length names ≡ length (ns ++ []) = ap length f in
-          let all : length (ns ++ []) ≡ length ns = ap length (cat-nil ns) in
+          let all : length (ns ++ []) ≡ length ns = ap length (append-nil ns) in
           absurd (omega (arith, few, all, l, numbers_grow (max (length ns) (m.sym.0 + 1)) ms (length names) h.1))
       next (n ∷ r) f (inr l) rec = new_learned m ms ns n r f (omega (arith, l, h.0))
-          (rec (ns ++ n ∷ []) r (f ∙ sym (cat-assoc ns (n ∷ []) r)) (same_numbers (max (length ns) (m.sym.0 + 1)) (length (ns ++ n ∷ [])) (length names) ms (omega (arith, l, h.0, push_length ns n)) h.1))
+          (rec (ns ++ n ∷ []) r (f ∙ sym (append_assoc ns (n ∷ []) r)) (same_numbers (max (length ns) (m.sym.0 + 1)) (length (ns ++ n ∷ [])) (length names) ms (omega (arith, l, h.0, push_length ns n)) h.1))
 
 marks_learned : (names : List (List ℕ)) (ms : List Mark) → IsDistinct bytes_eq names → IsNumbered 0 ms (length names) → learned (name_in names) [] ms ≡ names
 marks_learned names ms d h = learn names d ms [] names refl h

@@ -17,6 +17,7 @@ use Rattle.cmd_text.specs.Mirror.Reader.{Spot, AtSentence, AtName, AtDefine, AtF
 use Rattle.cmd_text.specs.Mirror.Reading.{Standing, go, reads, begin, answer}
 use Rattle.cmd_text.proofs.FileTaken.{nothing, same_some}
 use Rattle.cmd_text.proofs.ReaderSteps.{Gone, gone, at_some, read_text, text_read}
+use Rattle.cmd_text.proofs.Refusals.{end_refused}
 use Rattle.cmd_text.proofs.Verdicts.{fine, fine_back, stops, stops_back, fault_of, stop_of}
 use Rattle.cmd_text.proofs.Scanned.{EndsWell, Proper, proper_scan}
 
@@ -25,24 +26,12 @@ abbrev pub IsFinished : Spot → Type 0
 IsFinished (Finished ss) = ⊤
 IsFinished s = ⊥
 
-process_end : (number : List ℕ → ℕ) (s : State) → machine.step number s End ≡ None
-process_end number AtForm = refl
-process_end number (AtBody l) = refl
-process_end number (AtItem k a i) = refl
-process_end number (AtMark k a i n) = refl
-process_end number (AfterItem k a i) = refl
-process_end number (AtBurst k a i ms) = refl
-process_end number (AtBurstMark k a i ms n) = refl
-process_end number (AfterBurst k a i ms) = refl
-process_end number (AtSecond l b) = refl
-process_end number (Closed w) = refl
-
 end_step : (number : List ℕ → ℕ) (s : Spot) (p : ℕ) → IfSome (step number s End (Some p)) IsFinished
 end_step number (AtSentence ss) p = tt
 end_step number (AtName ss) p = tt
 end_step number (AtDefine ss h) p = tt
 end_step number (AtFactor q) p = tt
-end_step number (InProcess q s) p = subst (λ o. IfSome (option_map (put q) o) IsFinished) (sym (process_end number s)) tt
+end_step number (InProcess q s) p = subst (λ o. IfSome (option_map (put q) o) IsFinished) (sym (end_refused number s)) tt
 end_step number (AfterName q u) p = tt
 end_step number (AtFresh q u) p = tt
 end_step number (AtSlash q u n r) p = tt
@@ -67,10 +56,6 @@ end_read (x ∷ xs) st t w h = end_by st x xs t (go st x) refl w (λ u v g. end_
 
 proper : (bytes : List ℕ) → Proper (scan Between 0 bytes)
 proper bytes = proper_scan bytes Between 0 tt
-
-finished_by : (ns : List (List ℕ)) (s : Spot) → IsFinished s → (ss : List Sentence) × (s ≡ Finished ss)
-finished_by ns (Finished ss) h = (ss, refl)
-finished_by ns s h = absurd h
 
 pub read_finished : (bytes : List ℕ) (st : Standing) → answer bytes ≡ Ok st → IsFinished st.spot
 read_finished bytes st h =

@@ -1,5 +1,5 @@
 -- The reader with its growing names is the machine with the numbers of all names.
-use Rattle.std.proofs.Common.{◌≡◌, ℕ, List, [], ◌∷◌, ◌++◌, Option, Some, None, refl, sym, ◌∙◌, ap, subst}
+use Rattle.std.proofs.Common.{◌≡◌, ℕ, List, [], ◌∷◌, ◌++◌, Option, Some, None, refl, sym, ◌∙◌, ap, subst, append-nil}
 use Rattle.std.specs.Prelude.{⊤}
 use Rattle.std.specs.Option.{IfSome, option_and_then, option_map}
 use Rattle.std.specs.List.{AllByRecursion}
@@ -17,7 +17,7 @@ use Rattle.cmd_text.specs.Mirror.Machine as machine
 use Rattle.cmd_text.specs.Mirror.Reader.{Partly, Spot, AtSentence, AtName, AtDefine, AtFactor, InProcess, AfterName, AtFresh, AtSlash, AtWas, AfterPair, AfterFactor, AtEnd, Finished, put, after_sentence, with_sentence, step, open_brackets_at}
 use Rattle.cmd_text.specs.Mirror.Reading.{Standing, with_heard, hear, go, reads, begin}
 use Rattle.cmd_text.proofs.ProcessSound.{Knows, depth_step}
-use Rattle.cmd_text.proofs.FileSound.{Told, KnowsAt, told_step, push-assoc, cat-nil, Whole}
+use Rattle.cmd_text.proofs.FileSound.{Told, KnowsAt, told_step, push-assoc, Whole}
 use Rattle.cmd_text.proofs.FileTaken.{srun, matched, file_taken, nothing, same_some}
 use Rattle.cmd_text.proofs.NamesKept.{Grew, grew_after, heard_number, heard_name, Apart, apart_after, number_name}
 
@@ -288,7 +288,7 @@ told_read_step st x xs ys p t (Some u) e b d f h =
     f u j.1 (subst (λ v. Told (name_in v) u.spot (ys ++ x ∷ [])) (sym y) (told_gone st x u w.more ys g (subst (λ v. Told (name_in v) st.spot ys) y d))) h
 
 pub told_read : (xs : List Placed) (st : Standing) (ys : List Placed) (p : Token) (t : Standing) → Behind st.spot p → Told (name_in t.names) st.spot ys → reads st xs ≡ Some t → Told (name_in t.names) t.spot (ys ++ xs)
-told_read [] st ys p t b d h = subst (λ v. Told (name_in t.names) t.spot v) (sym (cat-nil ys)) (subst (λ u. Told (name_in t.names) u.spot ys) (same_some h) d)
+told_read [] st ys p t b d h = subst (λ v. Told (name_in t.names) t.spot v) (sym (append-nil ys)) (subst (λ u. Told (name_in t.names) u.spot ys) (same_some h) d)
 told_read (x ∷ xs) st ys p t b d h = subst (λ v. Told (name_in t.names) t.spot v) (push-assoc ys x xs) (told_read_step st x xs ys p t (go st x) refl b d (λ u c k g. told_read xs u (ys ++ x ∷ []) x.tok t c k g) h)
 
 -- ---- texts
@@ -300,7 +300,7 @@ read_text xs names ss h =
     let d : Whole (name_in names) ss _ xs = told_read xs begin [] End (record { names = names; spot = Finished ss }) tt (told_nothing (name_in names)) h in
     record {
       named = reads_names xs begin End (record { names = names; spot = Finished ss }) tt h;
-      spelled = record { text = d.text; whole = d.whole; sentences = d.built; tokens = subst (λ v. Match (file (name_in names) d.text []) v) (cat-nil xs) (d.says.says [] [] tt) };
+      spelled = record { text = d.text; whole = d.whole; sentences = d.built; tokens = subst (λ v. Match (file (name_in names) d.text []) v) (append-nil xs) (d.says.says [] [] tt) };
     }
 
 pub text_read : (xs : List Placed) (names : List (List ℕ)) (ss : List Sentence) → AllByRecursion IsToken xs → IsText xs names ss → reads begin xs ≡ Some (record { names = names; spot = Finished ss })

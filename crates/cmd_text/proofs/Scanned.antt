@@ -4,7 +4,7 @@ use Rattle.std.specs.Prelude.{⊤, ◌&&◌, ◌||◌, not, nat_lt, nat_le, nat_
 use Rattle.std.specs.Option.{IfSome}
 use Rattle.std.specs.List.{AllByRecursion, list_all}
 use Rattle.std.specs.Str.{bytes_eq}
-use Rattle.std.proofs.lemmas.Bool.{ltb-false, leb-false}
+use Rattle.std.proofs.lemmas.Bool.{and_parts, ltb-false, leb-false}
 use Rattle.std.proofs.lemmas.List.Folds.{list_all-append}
 use Rattle.cmd_tree.specs.Limits.{is_word, is_letter, is_tail, begins_with_letter}
 use Rattle.cmd_text.specs.Token.{Token, Let, Main, Pref, Define, Bar, Par, End, Word}
@@ -64,7 +64,7 @@ short_by n false e h = absurd (omega (arith, leb-false n 32 e))
 short : (n : ℕ) → nat_lt 32 n ≡ false → nat_le n 32 ≡ true
 short n e = short_by n (nat_le n 32) refl (ltb-false 32 n e)
 
-is_token_word : (w : List ℕ) → nat_lt 32 (length w) ≡ false → begins_with_letter w ≡ true → IsWord (word w)
+pub is_token_word : (w : List ℕ) → nat_lt 32 (length w) ≡ false → begins_with_letter w ≡ true → IsWord (word w)
 is_token_word w l b = if_case IsWord (bytes_eq w (codes "let")) Let (if bytes_eq w (codes "main") then Main else if bytes_eq w (codes "pref") then Pref else Word w) (λ e. tt) (λ d.
     if_case IsWord (bytes_eq w (codes "main")) Main (if bytes_eq w (codes "pref") then Pref else Word w) (λ e. tt) (λ e.
     if_case IsWord (bytes_eq w (codes "pref")) Pref (Word w) (λ f. tt) (λ f.
@@ -95,20 +95,12 @@ and_true : (a b : Bool) → a ≡ true → b ≡ true → (a && b) ≡ true
 and_true true b e f = f
 and_true false b e f = true_false (sym e)
 
-pub and_left : (a b : Bool) → (a && b) ≡ true → a ≡ true
-and_left true b e = refl
-and_left false b e = true_false (sym e)
-
-pub and_right : (a b : Bool) → (a && b) ≡ true → b ≡ true
-and_right true b e = e
-and_right false b e = true_false (sym e)
-
-longer : (w : List ℕ) (b : ℕ) → begins_with_letter w ≡ true → is_tail b ≡ true → begins_with_letter (w ++ b ∷ []) ≡ true
+pub longer : (w : List ℕ) (b : ℕ) → begins_with_letter w ≡ true → is_tail b ≡ true → begins_with_letter (w ++ b ∷ []) ≡ true
 longer [] b e f = true_false (sym e)
-longer (c ∷ w) b e f = and_true (is_letter c) (list_all is_tail (w ++ b ∷ [])) (and_left (is_letter c) (list_all is_tail w) e)
-    (list_all-append is_tail w (b ∷ []) ∙ and_true (list_all is_tail w) (is_tail b && true) (and_right (is_letter c) (list_all is_tail w) e) (and_true (is_tail b) true f refl))
+longer (c ∷ w) b e f = and_true (is_letter c) (list_all is_tail (w ++ b ∷ [])) (and_parts (is_letter c) (list_all is_tail w) e).0
+    (list_all-append is_tail w (b ∷ []) ∙ and_true (list_all is_tail w) (is_tail b && true) (and_parts (is_letter c) (list_all is_tail w) e).1 (and_true (is_tail b) true f refl))
 
-letter_word : (b : ℕ) → is_letter b ≡ true → begins_with_letter (b ∷ []) ≡ true
+pub letter_word : (b : ℕ) → is_letter b ≡ true → begins_with_letter (b ∷ []) ≡ true
 letter_word b e = and_true (is_letter b) true e refl
 
 pub proper_scan : (bs : List ℕ) (m : Mode) (at : ℕ) → GoodMode m → Proper (scan m at bs)

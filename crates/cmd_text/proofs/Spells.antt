@@ -1,5 +1,6 @@
 -- One token written before others: its bytes are scanned as that token, and the rest as before.
-use Rattle.std.proofs.Common.{◌≡◌, ℕ, ◌+◌, Bool, true, false, List, [], ◌∷◌, ◌++◌, length, None, refl, sym, ◌∙◌, ap, subst, arith}
+use Rattle.std.proofs.lemmas.Bool.{and_parts}
+use Rattle.std.proofs.Common.{◌≡◌, ℕ, ◌+◌, Bool, true, false, List, [], ◌∷◌, ◌++◌, length, None, refl, sym, ◌∙◌, ap, subst, arith, append_assoc, append-nil}
 use Rattle.std.specs.Prelude.{⊤, IsTrue, ◌&&◌, ◌||◌, not, nat_lt, nat_le, nat_eq, codes, if◌then◌else◌}
 use Rattle.std.specs.List.{list_all}
 use Rattle.std.specs.Str.{bytes_eq}
@@ -9,9 +10,7 @@ use Rattle.cmd_text.specs.Token.{Token, Let, Main, Pref, Dot, Bar, Par, End, Wor
 use Rattle.cmd_text.specs.Text.{tokens}
 use Rattle.cmd_text.specs.Fault.{NameTooLong}
 use Rattle.cmd_text.specs.Scan.{Scanned, then_token, faulty, is_blank, word, then_word, Mode, Between, InWord, start, scan}
-use Rattle.cmd_text.proofs.FileSound.{cat-assoc, cat-nil}
 use Rattle.cmd_text.proofs.NamesKept.{true_false}
-use Rattle.cmd_text.proofs.Scanned.{and_left, and_right}
 
 -- a scan of these tokens, of which none is faulty
 pub record Reads (r : List Token) (s : Scanned) : Type 0 where
@@ -34,7 +33,7 @@ pub record Starts (r : List Token) (q : List ℕ) : Type 0 where
 
 -- a text in three parts, grouped from the left
 pub regroup : (P : List ℕ → Type 0) (a b q : List ℕ) → P (a ++ (b ++ q)) → P ((a ++ b) ++ q)
-regroup P a b q h = subst P (sym (cat-assoc a b q)) h
+regroup P a b q h = subst P (sym (append_assoc a b q)) h
 
 pub reads_then : (t : Token) (at : ℕ) (r : List Token) (s : Scanned) → Reads r s → Reads (t ∷ r) (then_token t at s)
 reads_then t at r s h = record { clean = h.clean; toks = ap (λ u. t ∷ u) h.toks }
@@ -64,12 +63,12 @@ word_ends t p w r s l e h = subst (λ u. Reads (t ∷ r) (if u then faulty (Name
 -- the word v, of which w was scanned and bs is to come
 in_word : (t : Token) (bs w v : List ℕ) (c p at : ℕ) (r : List Token) (q : List ℕ) → list_all is_tail bs ≡ true → is_tail c ≡ false → nat_lt 32 (length v) ≡ false → word v ≡ t → w ++ bs ≡ v → Spells r (c ∷ q) → Reads (t ∷ r) (scan (InWord p w) at (bs ++ c ∷ q))
 in_word t [] w v c p at r q a f l g e h =
-    let same : v ≡ w = sym e ∙ cat-nil w in
+    let same : v ≡ w = sym e ∙ append-nil w in
     subst (λ u. Reads (t ∷ r) (if u then scan (InWord p (w ++ c ∷ [])) (at + 1) q else then_word p w (scan Between at (c ∷ q)))) (sym f)
     (word_ends t p w r (scan Between at (c ∷ q)) (subst (λ u. nat_lt 32 (length u) ≡ false) same l) (ap word (sym same) ∙ g) (h.read at))
 in_word t (b ∷ bs) w v c p at r q a f l g e h =
-    subst (λ u. Reads (t ∷ r) (if u then scan (InWord p (w ++ b ∷ [])) (at + 1) (bs ++ c ∷ q) else then_word p w (scan Between at (b ∷ (bs ++ c ∷ q))))) (sym (and_left (is_tail b) (list_all is_tail bs) a))
-    (in_word t bs (w ++ b ∷ []) v c p (at + 1) r q (and_right (is_tail b) (list_all is_tail bs) a) f l g (cat-assoc w (b ∷ []) bs ∙ e) h)
+    subst (λ u. Reads (t ∷ r) (if u then scan (InWord p (w ++ b ∷ [])) (at + 1) (bs ++ c ∷ q) else then_word p w (scan Between at (b ∷ (bs ++ c ∷ q))))) (sym (and_parts (is_tail b) (list_all is_tail bs) a).0)
+    (in_word t bs (w ++ b ∷ []) v c p (at + 1) r q (and_parts (is_tail b) (list_all is_tail bs) a).1 f l g (append_assoc w (b ∷ []) bs ∙ e) h)
 
 pub pref_then : (c : ℕ) (r : List Token) (q : List ℕ) → is_tail c ≡ false → Spells r (c ∷ q) → Spells (Pref ∷ r) (codes "pref" ++ c ∷ q)
 pref_then c r q f h = record { read = λ at. in_word Pref (codes "ref") (codes "p") (codes "pref") c at (at + 1) r q refl f refl refl refl h }
@@ -107,15 +106,15 @@ pub name_then : (n : List ℕ) (c : ℕ) (r : List Token) (q : List ℕ) → IsT
 name_then [] c r q h f g = true_false (sym h)
 name_then (b ∷ bs) c r q h f g =
     let n = b ∷ bs in
-    let formed : (nat_le (length n) 32 && begins_with_letter n) ≡ true = and_left (nat_le (length n) 32 && begins_with_letter n) (not (is_word n)) h in
-    let free : not (is_word n) ≡ true = and_right (nat_le (length n) 32 && begins_with_letter n) (not (is_word n)) h in
-    let short : nat_le (length n) 32 ≡ true = and_left (nat_le (length n) 32) (begins_with_letter n) formed in
-    let begins : (is_letter b && list_all is_tail bs) ≡ true = and_right (nat_le (length n) 32) (begins_with_letter n) formed in
-    let first : is_letter b ≡ true = and_left (is_letter b) (list_all is_tail bs) begins in
+    let formed : (nat_le (length n) 32 && begins_with_letter n) ≡ true = (and_parts (nat_le (length n) 32 && begins_with_letter n) (not (is_word n)) h).0 in
+    let free : not (is_word n) ≡ true = (and_parts (nat_le (length n) 32 && begins_with_letter n) (not (is_word n)) h).1 in
+    let short : nat_le (length n) 32 ≡ true = (and_parts (nat_le (length n) 32) (begins_with_letter n) formed).0 in
+    let begins : (is_letter b && list_all is_tail bs) ≡ true = (and_parts (nat_le (length n) 32) (begins_with_letter n) formed).1 in
+    let first : is_letter b ≡ true = (and_parts (is_letter b) (list_all is_tail bs) begins).0 in
     record {
       spells = record {
         read = λ at. subst (λ s. Reads (Word n ∷ r) s) (sym (letter_starts at b (λ m. scan m (at + 1) (bs ++ c ∷ q)) first))
-            (in_word (Word n) bs (b ∷ []) n c at (at + 1) r q (and_right (is_letter b) (list_all is_tail bs) begins) f (short_name (length n) short) (no_word (bytes_eq n (codes "let")) (bytes_eq n (codes "main")) (bytes_eq n (codes "pref")) n free) refl g);
+            (in_word (Word n) bs (b ∷ []) n c at (at + 1) r q (and_parts (is_letter b) (list_all is_tail bs) begins).1 f (short_name (length n) short) (no_word (bytes_eq n (codes "let")) (bytes_eq n (codes "main")) (bytes_eq n (codes "pref")) n free) refl g);
       };
       unbarred = letter_not_bar b first;
     }

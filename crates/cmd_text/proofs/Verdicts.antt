@@ -1,5 +1,5 @@
 -- The reader's answer is the text of the tokens, or their first fault.
-use Rattle.std.proofs.Common.{◌≡◌, ℕ, ◌<◌, ◌≤◌, Bool, true, false, List, [], ◌∷◌, ◌++◌, Option, Some, None, Result, Ok, Err, refl, sym, ◌∙◌, ap, subst, ◌⊎◌, inl, inr, arith}
+use Rattle.std.proofs.Common.{◌≡◌, ℕ, ◌<◌, ◌≤◌, Bool, true, false, List, [], ◌∷◌, ◌++◌, Option, Some, None, Result, Ok, Err, refl, sym, ◌∙◌, ap, subst, ◌⊎◌, inl, inr, arith, append-nil}
 use Rattle.std.specs.Prelude.{nat_lt, if◌then◌else◌}
 use Rattle.std.specs.Option.{option_and_then}
 use Rattle.std.specs.List.{AllByRecursion}
@@ -11,7 +11,6 @@ use Rattle.cmd_text.specs.Fault.{Fault, Unexpected, TooDeep, opened_by, opened_a
 use Rattle.cmd_text.specs.Mirror.Reader.{open_brackets_at}
 use Rattle.cmd_text.specs.Mirror.Reading.{Standing, go, reads, begin, judge, verdict}
 use Rattle.cmd_text.proofs.FileTaken.{nothing, same_some}
-use Rattle.cmd_text.proofs.FileSound.{cat-nil}
 use Rattle.cmd_text.proofs.ReaderSteps.{depth_gone}
 use Rattle.cmd_text.proofs.Completed.{reads_then, stands_begins, begins_stands}
 
@@ -98,7 +97,7 @@ pass [] ys st e t h l = ap (λ u. verdict u ys e) (same_some h)
 pass (x ∷ xs) ys st e t h l = pass_step st x xs ys e t (go st x) refl (λ u g k. pass xs ys u e t g k) h l
 
 pass_all : (xs : List Placed) (st : Standing) (e : Option Fault) (t : Standing) → reads st xs ≡ Some t → IsShallow (open_brackets_at st.spot) (tokens xs) → verdict st xs e ≡ verdict t [] e
-pass_all xs st e t h l = ap (λ v. verdict st v e) (sym (cat-nil xs)) ∙ pass xs [] st e t h l
+pass_all xs st e t h l = ap (λ v. verdict st v e) (sym (append-nil xs)) ∙ pass xs [] st e t h l
 
 pub fine_back : (xs : List Placed) (st : Standing) (e : Option Fault) (t : Standing) → Fine st xs e t → verdict st xs e ≡ Ok t
 fine_back xs st e t h = pass_all xs st e t h.1 h.2 ∙ ap (λ v. verdict t [] v) h.0

@@ -1,5 +1,5 @@
 -- The end of the reader's loop, and what its answer says of the bytes.
-use Rattle.std.proofs.Common.{◌≡◌, ℕ, List, [], Option, Some, None, Ok, Err, refl, sym, ◌∙◌, ap}
+use Rattle.std.proofs.Common.{◌≡◌, ℕ, List, [], Option, Some, None, Ok, Err, refl, sym, ◌∙◌, ap, ◌⊎◌, inl, inr}
 use Rattle.std.specs.Option.{IfSome}
 use Rattle.cmd_text.specs.declared.file.Sentence.{Sentence}
 use Rattle.cmd_text.specs.declared.file.Refusal.{Refusal}
@@ -7,9 +7,8 @@ use Rattle.cmd_text.specs.declared.file.Refusal.TheVariants as told
 use Rattle.cmd_text.specs.declared.spot.Spot as code
 use Rattle.cmd_text.specs.declared.spot.Spot.TheVariants as variant
 use Rattle.cmd_text.specs.Fault.{Fault}
-use Rattle.cmd_text.specs.Mirror.ScanView.{fault_of}
-use Rattle.cmd_text.specs.Source.{IsTextOfBytes, IsShallowText, IsFaultOfBytes}
-use Rattle.cmd_text.specs.Mirror.Reader.{AtSentence, Finished}
+use Rattle.cmd_text.specs.Source.{fault_of, IsTextOfBytes, IsShallowText, IsFaultOfBytes}
+use Rattle.cmd_text.specs.Mirror.Reader.{Spot, AtSentence, Finished}
 use Rattle.cmd_text.specs.Mirror.Reading.{Standing, answer}
 use Rattle.cmd_text.specs.Mirror.ReaderView.{spot_of, answer_from}
 use Rattle.cmd_text.proofs.ReadExactly.{IsFinished, read_finished, ended_well, read_text_exactly, read_fault_exactly}
@@ -69,3 +68,27 @@ one_text bytes names ss ns ts h t =
 
 pub no_fault : (bytes : List ℕ) (names : List (List ℕ)) (ss : List Sentence) (f : Fault) → answer bytes ≡ ended_well names ss → IsFaultOfBytes bytes f → ⊥
 no_fault bytes names ss f h k = ok_err (sym h ∙ (read_fault_exactly bytes f).1 k)
+
+-- ---- a text or a fault
+finished_by : (s : Spot) → IsFinished s → (ss : List Sentence) × (s ≡ Finished ss)
+finished_by (Finished ss) h = (ss, refl)
+finished_by s h = absurd h
+
+either_by : (bytes : List ℕ) (a : Answer) → answer bytes ≡ a → ((names : List (List ℕ)) × (ss : List Sentence) × IsTextOfBytes bytes names ss × IsShallowText bytes) ⊎ ((f : Fault) × IsFaultOfBytes bytes f)
+either_by bytes (Err f) e = inr (f, (read_fault_exactly bytes f).0 e)
+either_by bytes (Ok st) e =
+    let k = finished_by st.spot (read_finished bytes st e) in
+    let t = read_text bytes st.names k.0 (e ∙ ap (λ s. Ok (record { names = st.names; spot = s })) k.1) in
+    inl (st.names, k.0, t.0, t.1)
+
+pub either : (bytes : List ℕ) → ((names : List (List ℕ)) × (ss : List Sentence) × IsTextOfBytes bytes names ss × IsShallowText bytes) ⊎ ((f : Fault) × IsFaultOfBytes bytes f)
+either bytes = either_by bytes (answer bytes) refl
+
+pub not_both : (bytes : List ℕ) (names : List (List ℕ)) (ss : List Sentence) (f : Fault) → IsTextOfBytes bytes names ss → IsShallowText bytes → IsFaultOfBytes bytes f → ⊥
+not_both bytes names ss f t s k = no_fault bytes names ss f ((read_text_exactly bytes names ss).1 (t, s)) k
+
+pub one_file : (bytes : List ℕ) (names ns : List (List ℕ)) (ss ts : List Sentence) → IsTextOfBytes bytes names ss → IsShallowText bytes → IsTextOfBytes bytes ns ts → (names ≡ ns) × (ss ≡ ts)
+one_file bytes names ns ss ts t s u = one_text bytes names ss ns ts ((read_text_exactly bytes names ss).1 (t, s)) u
+
+pub one_fault : (bytes : List ℕ) (f g : Fault) → IsFaultOfBytes bytes f → IsFaultOfBytes bytes g → f ≡ g
+one_fault bytes f g h k = same_err (sym ((read_fault_exactly bytes f).1 h) ∙ (read_fault_exactly bytes g).1 k)

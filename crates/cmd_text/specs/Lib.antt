@@ -5,6 +5,7 @@ pub mod Names
 pub mod Text
 pub mod Fault
 pub mod Scan
+pub mod Tokens
 pub mod Source
 pub mod Canonical
 pub mod Printed

@@ -179,7 +179,11 @@ pub(crate) fn close_body(alloc: Global, draft: &mut Draft) -> Result<bool, Alloc
     }
     let items = mem::replace(&mut draft.items, Items::new(alloc));
     draft.alts.push(Seq { items })?;
-    draft.mode = if draft.led { Mode::Second } else { Mode::Closed };
+    draft.mode = if draft.led {
+        Mode::Second
+    } else {
+        Mode::Closed
+    };
     Ok(true)
 }
 

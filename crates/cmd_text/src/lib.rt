@@ -14,7 +14,7 @@ mod token;
 mod writer;
 
 pub use file::{Factor, File, Named, Refusal, Rename, Sentence};
-pub use laws::{canonical_texts_are_read, first_faults_are_told, texts_are_read};
+pub use laws::{canonical_texts_are_read, text_or_fault, tokens_are_longest};
 pub use names::NameTable;
 pub use read::read_file;
 pub use writer::{print_command, print_mark, put_command, write_command};

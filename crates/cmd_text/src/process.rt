@@ -34,16 +34,12 @@ fn read_token(
     requires few { length bytes.now ≤ MAX_FILE_BYTES }
     requires from_in { from ≤ length bytes.now }
     requires few_names { length names.old ≤ from }
-    ensures ok {
-        IfOk result (λ next. (q : reader.Partly) →
-            answer_from names.old (reader.InProcess q (state_of draft.old)) from bytes.now
-            ≡ answer_from names.new (reader.put q (state_of draft.new)) next bytes.now)
-    }
+    ensures ok { IfOk result (λ next. (q : reader.Partly) →
+        answer_from names.old (reader.InProcess q (state_of draft.old)) from bytes.now
+        ≡ answer_from names.new (reader.put q (state_of draft.new)) next bytes.now) }
     ensures range { IfOk result (λ next. (from < next) × (next ≤ length bytes.now) × (length names.new ≤ next)) }
-    ensures err {
-        IfErr result (λ e. (q : reader.Partly) →
-            Refuses names.old (reader.InProcess q (state_of draft.old)) from bytes.now e)
-    }
+    ensures err { IfErr result (λ e. (q : reader.Partly) →
+        Refuses names.old (reader.InProcess q (state_of draft.old)) from bytes.now e) }
 {
     let found = match next_token(bytes, from) {
         Ok(found) => found,
@@ -72,16 +68,12 @@ pub(crate) fn read_process(
     requires few { length bytes.now ≤ MAX_FILE_BYTES }
     requires from_in { from ≤ length bytes.now }
     requires few_names { length names.old ≤ from }
-    ensures ok {
-        IfOk result (λ b. (q : reader.Partly) →
-            answer_from names.old (reader.InProcess q AtForm) from bytes.now
-            ≡ answer_from names.new (reader.AfterFactor (reader.with_factor q (factor.Own b.process))) b.next bytes.now)
-    }
+    ensures ok { IfOk result (λ b. (q : reader.Partly) →
+        answer_from names.old (reader.InProcess q AtForm) from bytes.now
+        ≡ answer_from names.new (reader.AfterFactor (reader.with_factor q (factor.Own b.process))) b.next bytes.now) }
     ensures range { IfOk result (λ b. (from < b.next) × (b.next ≤ length bytes.now) × (length names.new ≤ b.next)) }
-    ensures err {
-        IfErr result (λ e. (q : reader.Partly) →
-            Refuses names.old (reader.InProcess q AtForm) from bytes.now e)
-    }
+    ensures err { IfErr result (λ e. (q : reader.Partly) →
+        Refuses names.old (reader.InProcess q AtForm) from bytes.now e) }
 {
     let mut draft = new_draft(alloc);
     let mut next = from;

@@ -2,11 +2,10 @@
 ghost use Rattle.std.specs.Prelude.{◌≡◌, ℕ, ◌<◌, ◌≤◌, List, [], length, IfOk, IfErr, IsOk, Ok, Err, true, false};
 ghost use Rattle.std.specs.Option.{IfSome};
 ghost use Rattle.cmd_tree.specs.declared.limits.TheConstants.{MAX_FILE_BYTES};
-ghost use Rattle.cmd_text.specs.Mirror.ScanView.{fault_of};
+ghost use Rattle.cmd_text.specs.Source.{fault_of, IsTextOfBytes, IsShallowText, IsFaultOfBytes};
 ghost use Rattle.cmd_text.specs.declared.file.Sentence.{Sentence};
 ghost use Rattle.cmd_text.specs.declared.file.Refusal.TheVariants as told;
 ghost use Rattle.cmd_text.specs.Fault.{Fault};
-ghost use Rattle.cmd_text.specs.Source.{IsTextOfBytes, IsShallowText, IsFaultOfBytes};
 ghost use Rattle.cmd_text.specs.Mirror.Machine.{AtForm};
 ghost use Rattle.cmd_text.specs.Mirror.Reader.{InProcess, Finished, IsWithin};
 ghost use Rattle.cmd_text.specs.Mirror.Reading.{answer};
@@ -41,16 +40,12 @@ fn pass_token(
     requires few { length bytes.now ≤ MAX_FILE_BYTES }
     requires from_in { from ≤ length bytes.now }
     requires outside { IsWithin (spot_of sentences.old spot) → ⊥ }
-    ensures ok {
-        IfOk result (λ a. (ns : List (List ℕ)) →
-            answer_from ns (spot_of sentences.old spot) from bytes.now
-            ≡ answer_behind a.ended ns (spot_of sentences.new a.spot) a.next bytes.now)
-    }
+    ensures ok { IfOk result (λ a. (ns : List (List ℕ)) →
+        answer_from ns (spot_of sentences.old spot) from bytes.now
+        ≡ answer_behind a.ended ns (spot_of sentences.new a.spot) a.next bytes.now) }
     ensures range { IfOk result (λ a. a.next ≤ length bytes.now) }
     ensures past { IfOk result (λ a. a.ended ≡ false → from < a.next) }
-    ensures err {
-        IfErr result (λ e. (ns : List (List ℕ)) → Refuses ns (spot_of sentences.old spot) from bytes.now e)
-    }
+    ensures err { IfErr result (λ e. (ns : List (List ℕ)) → Refuses ns (spot_of sentences.old spot) from bytes.now e) }
 {
     let found = match next_token(bytes, from) {
         Ok(found) => found,
@@ -82,16 +77,12 @@ fn pass_process(
     requires few { length bytes.now ≤ MAX_FILE_BYTES }
     requires from_in { from ≤ length bytes.now }
     requires few_names { length names.old ≤ from }
-    ensures ok {
-        IfOk result (λ a. (ss : List Sentence) →
-            answer_from names.old (InProcess (partly_of ss partly) AtForm) from bytes.now
-            ≡ answer_behind a.ended names.new (spot_of ss a.spot) a.next bytes.now)
-    }
+    ensures ok { IfOk result (λ a. (ss : List Sentence) →
+        answer_from names.old (InProcess (partly_of ss partly) AtForm) from bytes.now
+        ≡ answer_behind a.ended names.new (spot_of ss a.spot) a.next bytes.now) }
     ensures range { IfOk result (λ a. (from < a.next) × (a.next ≤ length bytes.now) × (length names.new ≤ a.next)) }
-    ensures err {
-        IfErr result (λ e. (ss : List Sentence) →
-            Refuses names.old (InProcess (partly_of ss partly) AtForm) from bytes.now e)
-    }
+    ensures err { IfErr result (λ e. (ss : List Sentence) →
+        Refuses names.old (InProcess (partly_of ss partly) AtForm) from bytes.now e) }
 {
     let behind = match read_process(alloc, bytes, from, names) {
         Ok(behind) => behind,
@@ -119,11 +110,9 @@ fn advance(
     requires few { length bytes.now ≤ MAX_FILE_BYTES }
     requires from_in { from ≤ length bytes.now }
     requires few_names { length names.old ≤ from }
-    ensures ok {
-        IfOk result (λ a.
-            answer_from names.old (spot_of sentences.old spot) from bytes.now
-            ≡ answer_behind a.ended names.new (spot_of sentences.new a.spot) a.next bytes.now)
-    }
+    ensures ok { IfOk result (λ a.
+        answer_from names.old (spot_of sentences.old spot) from bytes.now
+        ≡ answer_behind a.ended names.new (spot_of sentences.new a.spot) a.next bytes.now) }
     ensures range { IfOk result (λ a. a.next ≤ length bytes.now) }
     ensures past { IfOk result (λ a. a.ended ≡ false → (from < a.next) × (length names.new ≤ a.next)) }
     ensures err { IfErr result (Refuses names.old (spot_of sentences.old spot) from bytes.now) }

@@ -137,7 +137,13 @@ fn fresh_step(
 }
 
 #[tactic(auto, using(std::proofs::lemmas::Grind::common_steps, crate::proofs::RefusedSpots::refused_spots))]
-fn slash_step(partly: Partly, named: Named, fresh: Name, fresh_at: u32, token: Token) -> Option<Spot>
+fn slash_step(
+    partly: Partly,
+    named: Named,
+    fresh: Name,
+    fresh_at: u32,
+    token: Token,
+) -> Option<Spot>
     ensures { (word : List ℕ) (p : Option ℕ) → Leads (λ ss. AtSlash (partly_of ss partly) named fresh fresh_at) (token_of token word) p result }
 {
     match token {

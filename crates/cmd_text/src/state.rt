@@ -67,6 +67,7 @@ fn second_step(draft: &mut Draft, token: Token) -> bool
         _ => false,
     }
 }
+
 #[tactic(auto, using(std::proofs::lemmas::Grind::common_steps, crate::proofs::Refusals::refusals))]
 fn item_step(alloc: Global, draft: &mut Draft, lexeme: &Lexeme<'_>) -> Result<bool, AllocError>
     ensures { IfOk result (λ b. Takes (at_item draft.old) (lexeme_token lexeme.now) b draft.new) }

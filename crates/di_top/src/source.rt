@@ -6,8 +6,8 @@ ghost use Rattle.cmd_tree.specs.Limits.{places_of_all};
 ghost use Rattle.di_top.specs.Sources.{sourced, main_of, procs_of, within_limits, IsFile, Tells};
 ghost use Rattle.di_top.specs.Sources as spec;
 
-use cmd_text::{Factor, File, Sentence};
-use cmd_tree::{Command, NameSet, Proc, places_in_all};
+use cmd_text::{Factor, File, NameTable, Sentence};
+use cmd_tree::{Command, Proc, places_in_all};
 use sqlite_items::Items;
 use std::alloc::{AllocError, AllocFailed, Global};
 
@@ -68,6 +68,7 @@ pub fn source(alloc: Global, file: File) -> Result<Command, SourceRefusal>
         return Err(SourceRefusal::NotThisForm);
     };
     check_limits(&names, procs.as_slice())?;
+    let names = names.into_set(alloc)?;
     Ok(Command { names, procs })
 }
 
@@ -102,7 +103,7 @@ fn own_procs(alloc: Global, mut factors: Items<Factor>) -> Result<Option<Items<P
     Ok(Some(Items::from_vec(procs)))
 }
 
-fn check_limits(names: &NameSet, procs: &[Proc]) -> Result<(), SourceRefusal>
+fn check_limits(names: &NameTable, procs: &[Proc]) -> Result<(), SourceRefusal>
     requires { places_of_all procs.now < 2 ^ 32 }
     ensures ok { OnOk result (within_limits names.now procs.now ≡ spec.Sourced.Main names.now procs.now) }
     ensures refused { IfErr result (Tells (within_limits names.now procs.now)) }

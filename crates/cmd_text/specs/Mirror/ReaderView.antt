@@ -6,7 +6,7 @@ use Rattle.cmd_text.specs.Fault.{Fault}
 use Rattle.cmd_text.specs.Scan.{Between, scan}
 use Rattle.cmd_text.specs.declared.file.Sentence.{Sentence}
 use Rattle.cmd_text.specs.declared.file.Refusal.{Refusal}
-use Rattle.cmd_text.specs.Mirror.ScanView.{fault_of}
+use Rattle.cmd_text.specs.Source.{fault_of}
 use Rattle.cmd_text.specs.declared.spot.Head as code_head
 use Rattle.cmd_text.specs.declared.spot.Partly as code_partly
 use Rattle.cmd_text.specs.declared.spot.Spot as code

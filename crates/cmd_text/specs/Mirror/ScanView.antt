@@ -7,11 +7,11 @@ use Rattle.cmd_text.specs.declared.token.Start.TheVariants.{Blank, Hash, Begin}
 use Rattle.cmd_text.specs.declared.token.First.{First}
 use Rattle.cmd_text.specs.declared.token.First.TheVariants.{Letter, Colon, Pipe, Bad, Stray, Sign}
 use Rattle.cmd_text.specs.declared.file.Refusal.{Refusal}
-use Rattle.cmd_text.specs.declared.file.Refusal.TheVariants as told
 use Rattle.cmd_text.specs.declared.scan.Found.{Found}
 use Rattle.cmd_text.specs.declared.scan.Lexeme.{Lexeme}
 use Rattle.cmd_text.specs.Token as spec
-use Rattle.cmd_text.specs.Fault.{Fault, BadByte, BadToken, Unexpected, NameTooLong, TooDeep}
+use Rattle.cmd_text.specs.Fault.{BadByte, BadToken}
+use Rattle.cmd_text.specs.Source.{fault_of}
 use Rattle.cmd_text.specs.Scan.{Scanned, then_token, faulty, Mode, Between, InComment, InWord, AfterColon, AfterBar, scan}
 
 -- the token of these bytes
@@ -75,15 +75,6 @@ after t next bs = scan Between next (drop next bs)
 -- this token and then what is scanned behind it
 abbrev pub with_found : Found → List ℕ → Scanned
 with_found f bs = then_token (token_of f.token (slice_range bs f.at f.next)) f.at (after f.token f.next bs)
-
--- the fault that a refusal tells; a lack of memory is none
-abbrev pub fault_of : Refusal → Option Fault
-fault_of (told.BadByte at) = Some (BadByte at)
-fault_of (told.BadToken at) = Some (BadToken at)
-fault_of (told.Unexpected at) = Some (Unexpected at)
-fault_of (told.NameTooLong at) = Some (NameTooLong at)
-fault_of (told.TooDeep at) = Some (TooDeep at)
-fault_of told.NoMemory = None
 
 -- no token more, and the fault that a refusal tells
 abbrev pub with_refusal : Refusal → Scanned

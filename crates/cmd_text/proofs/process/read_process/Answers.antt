@@ -1,5 +1,5 @@
 use Rattle.std.proofs.Common.{sym}
-use Rattle.cmd_text.specs.Mirror.ScanView.{fault_of}
+use Rattle.cmd_text.specs.Source.{fault_of}
 use Rattle.cmd_text.proofs.WholeFile.{carry}
 use Rattle.cmd_text.proofs.process.read_process.Goals as goal
 

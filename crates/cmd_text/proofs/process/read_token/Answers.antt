@@ -44,6 +44,6 @@ returns-clause-ok c = λ q. token_passed c.args.names.now c.process_step.new.nam
 pub returns-clause-range : goal.returns-clause-range
 returns-clause-range c =
     let p : c.args.from < c.in-Ok.found.next = token_past (number_in c.process_step.new.names) (state_of c.args.draft.now) (state_of c.process_step.new.draft) c.in-Ok.found c.args.bytes.now (lexeme_token c.lexeme_of-lexeme.result) c.args.from c.lexeme_of-lexeme.ensures.token
-        (c.in-Ok-process_step.ensures.ok ∙ ap (λ b. only_if b (state_of c.process_step.new.draft)) c.if-not-taken.false) c.in-Ok.ensures.range.2 in
+    (c.in-Ok-process_step.ensures.ok ∙ ap (λ b. only_if b (state_of c.process_step.new.draft)) c.if-not-taken.false) c.in-Ok.ensures.range.2 in
     let n : length c.process_step.new.names ≤ length c.args.names.now + 1 = subst (λ v. length v ≤ length c.args.names.now + 1) (sym c.in-Ok-process_step.ensures.names) (heard_more c.args.names.now (heard (state_of c.args.draft.now) (lexeme_token c.lexeme_of-lexeme.result))) in
     (p, c.in-Ok.ensures.range.1, omega (arith, p, n, c.requires.few_names))

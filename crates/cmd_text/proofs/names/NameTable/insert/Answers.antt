@@ -20,9 +20,8 @@ invariant_of-self-in-Ok c =
     let m : position (bytes_eq c.args.name.now) c.self.inside.names.items ≡ None = sym (c.self.invariant.1 c.args.name.now) ∙ f in
     let e : c.push.new.self.items ≡ c.self.inside.names.items ++ c.args.name.now ∷ [] = c.in_ok-push.ensures.items ∙ ap (λ n. c.self.inside.names.items ++ n ∷ []) c.in_ok-name.ensures in
     let updated : (q : List ℕ) → get key_cmp c.insert.new.self q ≡ cond (is_eq (key_cmp c.args.name.now q)) (Some (length c.self.inside.names.items)) (get key_cmp c.self.inside.places q) = λ q. c.in-Ok.ensures.updates.0 q
-        ∙ ap (λ k. cond (is_eq (key_cmp k q)) (Some c.len-place.result) (get key_cmp c.self.inside.places q)) c.in_ok-key.ensures
-        ∙ ap (λ k. cond (is_eq (key_cmp c.args.name.now q)) (Some k) (get key_cmp c.self.inside.places q)) (c.len-place.ensures ∙ c.self.inside.names.ok.0) in
-    (
+    ∙ ap (λ k. cond (is_eq (key_cmp k q)) (Some c.len-place.result) (get key_cmp c.self.inside.places q)) c.in_ok-key.ensures
+    ∙ ap (λ k. cond (is_eq (key_cmp c.args.name.now q)) (Some k) (get key_cmp c.self.inside.places q)) (c.len-place.ensures ∙ c.self.inside.names.ok.0) in (
       subst (λ ns. IsDistinct bytes_eq ns) (sym e) (missing_distinct c.self.inside.names.items c.args.name.now c.self.invariant.0 m),
       λ q. finds_pushed c.self.inside.names.items c.args.name.now (get key_cmp c.self.inside.places) (get key_cmp c.insert.new.self) updated c.self.invariant.1 m q ∙ ap (λ ns. position (bytes_eq q) ns) (sym e),
     )
