@@ -13,6 +13,7 @@ mod measure;
 mod name;
 mod same;
 mod tree;
+mod visit;
 
 pub use command::Command;
 pub use copy::copy_command;
@@ -26,3 +27,4 @@ pub use measure::{depth, item_places, places, places_in_all, seq_places};
 pub use name::{Name, NameSet};
 pub use same::same_command;
 pub use tree::{Dir, Item, Mark, Proc, Seq, Sym};
+pub use visit::{Ends, Meeting, Visit, dir_of, walk};
