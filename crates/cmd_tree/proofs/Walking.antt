@@ -327,23 +327,3 @@ whole_process K p k =
     let Q : List Neighbours → Type 0 = λ x. K (bursts p) x LC in
     let R : List (List Alternative) → Type 0 = λ x. K (bursts p) (neighbours p) x in
     subst R (choices_parts p) (subst Q (neighbours_parts p) (subst P (bursts_parts p) k))
-
--- in the middle of a list of processes
-pub record Passing (K : List Proc → Type 0) (rest all : List Proc) : Type 0 where
-  seen : List Proc
-  knows : K seen
-  whole : seen ++ rest ≡ all
-
-pub passing_start : (K : List Proc → Type 0) (ps rest : List Proc) → K ps → Passing K rest (ps ++ rest)
-passing_start K ps rest k = record { seen = ps; knows = k; whole = refl }
-
-pub passing_next : (K L : List Proc → Type 0) (p : Proc) (tail rest all : List Proc) → tail ≡ p ∷ rest → Passing K tail all
-    → ((ps : List Proc) → K ps → L (ps ++ p ∷ [])) → Passing L rest all
-passing_next K L p tail rest all t w f = record {
-  seen = w.seen ++ p ∷ [];
-  knows = f w.seen w.knows;
-  whole = append_assoc w.seen (p ∷ []) rest ∙ ap (λ (l : List Proc). w.seen ++ l) (sym t) ∙ w.whole;
-}
-
-pub passing_done : (K : List Proc → Type 0) (tail all : List Proc) → tail ≡ [] → Passing K tail all → K all
-passing_done K tail all t w = subst K (sym (append-nil w.seen) ∙ ap (λ (l : List Proc). w.seen ++ l) (sym t) ∙ w.whole) w.knows

@@ -33,10 +33,10 @@ pub struct Meeting {
 pub trait Visit {
     ghost Knows: { Self → List Proc → List Burst → List Neighbours → List (List Alternative) → Type 0 };
 
-    /// A burst, at the place of its first mark.
-    fn burst(&mut self, place: u32, marks: &[Mark])
+    /// A burst of the process with this number, at the place of its first mark.
+    fn burst(&mut self, number: u32, place: u32, marks: &[Mark])
         requires { place + length marks.now < 2 ^ 32 }
-        ensures { (ps : List Proc) (bs : List Burst) (ns : List Neighbours) (cs : List (List Alternative)) → Knows self.old ps bs ns cs
+        ensures { (ps : List Proc) (bs : List Burst) (ns : List Neighbours) (cs : List (List Alternative)) → number ≡ length ps + 1 → Knows self.old ps bs ns cs
             → Knows self.new ps (bs ++ record { place = place; marks = marks.now } ∷ []) ns cs };
 
     /// An item and what stands before it in its sequence.
@@ -50,10 +50,10 @@ pub trait Visit {
             → first_of_each (all_begins c) ≡ begins → first_of_each (all_ends c) ≡ ends
             → Knows self.old ps bs ns cs → Knows self.new ps bs ns (cs ++ c ∷ []) };
 
-    /// The end of a process, all of whose bursts, neighbours and choices were seen.
-    fn end(&mut self, process: &Proc, round: Meeting)
+    /// The end of the process with this number, all of whose bursts, neighbours and choices were seen.
+    fn end(&mut self, number: u32, process: &Proc, round: Meeting)
         requires { places_of_proc process.now + 1 < 2 ^ 32 }
-        ensures { (ps : List Proc) → met (turn process.now) ≡ round
+        ensures { (ps : List Proc) → number ≡ length ps + 1 → met (turn process.now) ≡ round
             → Knows self.old ps (bursts process.now) (neighbours process.now) (choices process.now)
             → Knows self.new (ps ++ process.now ∷ []) [] [] [] };
 }
@@ -66,54 +66,61 @@ struct Walked {
     ends: Ends,
 }
 
-/// Walks over processes, of which the visitor has seen none.
+/// Walks over processes. They are numbered from 1.
 pub fn walk<V: Visit>(procs: &[Proc], visit: &mut V)
-    requires { places_of_all procs.now + 1 < 2 ^ 32 }
-    ensures { (ps : List Proc) → V.Knows visit.old ps [] [] [] → V.Knows visit.new (ps ++ procs.now) [] [] [] }
+    requires count { length procs.now + 1 < 2 ^ 32 }
+    requires places { places_of_all procs.now + 1 < 2 ^ 32 }
+    ensures { V.Knows visit.old [] [] [] [] → V.Knows visit.new procs.now [] [] [] }
 {
-    for process in procs {
-        walk_process(process, visit);
+    for (index, process) in procs.iter().enumerate() {
+        walk_process(index as u32 + 1, process, visit);
     }
 }
 
-fn walk_process<V: Visit>(process: &Proc, visit: &mut V)
+fn walk_process<V: Visit>(number: u32, process: &Proc, visit: &mut V)
     requires { places_of_proc process.now + 1 < 2 ^ 32 }
-    ensures { (ps : List Proc) → V.Knows visit.old ps [] [] [] → V.Knows visit.new (ps ++ process.now ∷ []) [] [] [] }
+    ensures { (ps : List Proc) → number ≡ length ps + 1 → V.Knows visit.old ps [] [] [] → V.Knows visit.new (ps ++ process.now ∷ []) [] [] [] }
 {
-    let lead = walk_part(&process.lead, 1, Ends::none(), visit);
-    let body = walk_part(&process.body, lead.next, lead.ends, visit);
+    let lead = walk_part(number, &process.lead, 1, Ends::none(), visit);
+    let body = walk_part(number, &process.body, lead.next, lead.ends, visit);
     let round = Meeting {
         ends: body.ends,
         begins: body.begins,
     };
-    visit.end(process, round);
+    visit.end(number, process, round);
 }
 
 /// A lead or a body, where there is one.
-fn walk_part<V: Visit>(part: &Option<Seq>, first: u32, before: Ends, visit: &mut V) -> Walked
+fn walk_part<V: Visit>(
+    number: u32,
+    part: &Option<Seq>,
+    first: u32,
+    before: Ends,
+    visit: &mut V,
+) -> Walked
     requires { first + of_part 0 places_of part.now < 2 ^ 32 }
     ensures next { result.next ≡ first + of_part 0 places_of part.now }
     ensures begins { result.begins ≡ first_of_each (of_part [] (firsts_of first) part.now) }
     ensures ends { result.ends ≡ first_of_each (of_part [] (lasts_of first) part.now) }
     ensures knows { (ps : List Proc) (bs : List Burst) (ns : List Neighbours) (cs : List (List Alternative)) (earlier : List Burst)
-        → first_of_each earlier ≡ before → V.Knows visit.old ps bs ns cs
+        → number ≡ length ps + 1 → first_of_each earlier ≡ before → V.Knows visit.old ps bs ns cs
         → V.Knows visit.new ps (bs ++ of_part [] (bursts_of first) part.now) (ns ++ of_part [] (neighbours_of earlier first) part.now)
         (cs ++ of_part [] (choices_of first) part.now) }
 {
     match part {
         None => Walked::nothing(first),
-        Some(seq) => walk_seq(seq, first, before, visit),
+        Some(seq) => walk_seq(number, seq, first, before, visit),
     }
 }
 
 #[cycle(walk)]
-fn walk_seq<V: Visit>(seq: &Seq, first: u32, before: Ends, visit: &mut V) -> Walked
+fn walk_seq<V: Visit>(number: u32, seq: &Seq, first: u32, before: Ends, visit: &mut V) -> Walked
     requires { first + places_of seq.now < 2 ^ 32 }
     ensures next { result.next ≡ first + places_of seq.now }
     ensures begins { result.begins ≡ first_of_each (firsts_of first seq.now) }
     ensures ends { result.ends ≡ first_of_each (lasts_of first seq.now) }
     ensures knows { (ps : List Proc) (bs : List Burst) (ns : List Neighbours) (cs : List (List Alternative)) (earlier : List Burst)
-        → first_of_each earlier ≡ before → V.Knows visit.old ps bs ns cs
+        → number ≡ length ps + 1 → first_of_each earlier ≡ before → V.Knows visit.old ps bs ns cs
         → V.Knows visit.new ps (bs ++ bursts_of first seq.now) (ns ++ neighbours_of earlier first seq.now) (cs ++ choices_of first seq.now) }
 {
     let mut begins = None;
@@ -121,7 +128,7 @@ fn walk_seq<V: Visit>(seq: &Seq, first: u32, before: Ends, visit: &mut V) -> Wal
     let mut before = before;
     let mut place = first;
     for item in seq.items.as_slice() {
-        let walked = walk_item(item, place, before, visit);
+        let walked = walk_item(number, item, place, before, visit);
         begins = begun(begins, walked.begins);
         ends = walked.ends;
         before = walked.ends;
@@ -136,23 +143,23 @@ fn walk_seq<V: Visit>(seq: &Seq, first: u32, before: Ends, visit: &mut V) -> Wal
 
 /// An item, and then its meeting with what stands before it.
 #[cycle(walk)]
-fn walk_item<V: Visit>(item: &Item, first: u32, before: Ends, visit: &mut V) -> Walked
+fn walk_item<V: Visit>(number: u32, item: &Item, first: u32, before: Ends, visit: &mut V) -> Walked
     requires { first + places_in (item_of item.now) < 2 ^ 32 }
     ensures next { result.next ≡ first + places_in (item_of item.now) }
     ensures begins { result.begins ≡ first_of_each (firsts_in first (item_of item.now)) }
     ensures ends { result.ends ≡ first_of_each (lasts_in first (item_of item.now)) }
     ensures knows { (ps : List Proc) (bs : List Burst) (ns : List Neighbours) (cs : List (List Alternative)) (earlier : List Burst)
-        → first_of_each earlier ≡ before → V.Knows visit.old ps bs ns cs
+        → number ≡ length ps + 1 → first_of_each earlier ≡ before → V.Knows visit.old ps bs ns cs
         → V.Knows visit.new ps (bs ++ bursts_in first (item_of item.now))
         (ns ++ (neighbours_in first (item_of item.now) ++ record { ends = earlier; begins = firsts_in first (item_of item.now) } ∷ []))
         (cs ++ choices_in first (item_of item.now)) }
 {
     let walked = match item {
-        Item::Burst(marks) => walk_burst(marks.as_slice(), first, visit),
+        Item::Burst(marks) => walk_burst(number, marks.as_slice(), first, visit),
         Item::Alt(seqs) => {
             let mut walked = Walked::nothing(first);
             for seq in seqs.as_slice() {
-                walked = walked.and(walk_seq(seq, walked.next, Ends::none(), visit));
+                walked = walked.and(walk_seq(number, seq, walked.next, Ends::none(), visit));
             }
             visit.choice(walked.begins, walked.ends);
             walked
@@ -165,15 +172,15 @@ fn walk_item<V: Visit>(item: &Item, first: u32, before: Ends, visit: &mut V) -> 
     walked
 }
 
-fn walk_burst<V: Visit>(marks: &[Mark], first: u32, visit: &mut V) -> Walked
+fn walk_burst<V: Visit>(number: u32, marks: &[Mark], first: u32, visit: &mut V) -> Walked
     requires { first + length marks.now < 2 ^ 32 }
     ensures next { result.next ≡ first + length marks.now }
     ensures begins { result.begins ≡ first_of_each (record { place = first; marks = marks.now } ∷ []) }
     ensures ends { result.ends ≡ first_of_each (record { place = first; marks = marks.now } ∷ []) }
-    ensures knows { (ps : List Proc) (bs : List Burst) (ns : List Neighbours) (cs : List (List Alternative)) → V.Knows visit.old ps bs ns cs
-        → V.Knows visit.new ps (bs ++ record { place = first; marks = marks.now } ∷ []) ns cs }
+    ensures knows { (ps : List Proc) (bs : List Burst) (ns : List Neighbours) (cs : List (List Alternative)) → number ≡ length ps + 1
+        → V.Knows visit.old ps bs ns cs → V.Knows visit.new ps (bs ++ record { place = first; marks = marks.now } ∷ []) ns cs }
 {
-    visit.burst(first, marks);
+    visit.burst(number, first, marks);
     let ends = Ends::of(dir_of(marks), first);
     Walked {
         next: first + marks.len() as u32,

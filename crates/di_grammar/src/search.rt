@@ -1,58 +1,62 @@
-ghost use Rattle.std.specs.Prelude.{◌≡◌, ◌+◌, ◌<◌, ◌^◌, None, length};
-ghost use Rattle.cmd_tree.specs.Tree.{places_of};
-ghost use Rattle.cmd_tree.specs.View.{seq_of};
-ghost use Rattle.di_grammar.specs.Least.{lesser};
+//! The least place so far that breaks a rule.
+ghost use Rattle.std.specs.Prelude.{◌≡◌, ◌+◌, ◌<◌, ◌^◌, Some, None};
+ghost use Rattle.di_grammar.specs.Mirror.Searches.{lesser, met_in};
 
-use crate::fault::{Fault, lesser};
-use cmd_tree::{Item, Mark, item_places};
+use crate::broken::Broken;
 
-/// A walk over a tree in text order: the place that it has come to, and the least fault so far.
+/// A place that breaks a rule, and the other place of the rule in the same process.
+#[derive(Debug, Clone, Copy, PartialEq, Eq)]
+pub struct Pair {
+    pub place: u32,
+    pub other: u32,
+}
+
+/// The search for the least place that breaks a rule, in the process with this number.
 #[derive(Debug, Clone, Copy, PartialEq, Eq)]
 pub struct Search {
-    pub place: u32,
-    pub found: Option<Fault>,
+    pub rule: u8,
+    pub process: u32,
+    pub found: Option<Broken>,
 }
 
 impl Search {
-    pub fn at(place: u32) -> Search
-        ensures place { result.place ≡ place }
+    /// Before the first process.
+    pub fn of(rule: u8) -> Search
+        ensures rule { result.rule ≡ rule }
+        ensures process { result.process ≡ 1 }
         ensures found { result.found ≡ None }
     {
-        Search { place, found: None }
-    }
-
-    pub fn meet(self, fault: Option<Fault>) -> Search
-        ensures place { result.place ≡ self.place }
-        ensures found { result.found ≡ lesser self.found fault }
-    {
         Search {
-            place: self.place,
-            found: lesser(self.found, fault),
+            rule,
+            process: 1,
+            found: None,
         }
     }
 
-    pub fn pass(self, marks: &[Mark]) -> Search
-        requires { self.place + length marks.now < 2 ^ 32 }
-        ensures place { result.place ≡ self.place + length marks.now }
+    /// After a place of the process that breaks the rule, if there is one.
+    pub fn meet(self, pair: Option<Pair>) -> Search
+        ensures rule { result.rule ≡ self.rule }
+        ensures process { result.process ≡ self.process }
+        ensures found { result.found ≡ lesser self.found (met_in self.rule self.process pair) }
+    {
+        let broken = pair.map(|pair| self.broken(pair));
+        Search {
+            rule: self.rule,
+            process: self.process,
+            found: lesser(self.found, broken),
+        }
+    }
+
+    /// At the end of the process.
+    pub fn next(self) -> Search
+        requires { self.process + 1 < 2 ^ 32 }
+        ensures rule { result.rule ≡ self.rule }
+        ensures process { result.process ≡ self.process + 1 }
         ensures found { result.found ≡ self.found }
     {
         Search {
-            place: self.place + marks.len() as u32,
-            found: self.found,
-        }
-    }
-
-    pub fn skip(self, items: &[Item]) -> Search
-        requires { self.place + places_of (seq_of items.now) < 2 ^ 32 }
-        ensures place { result.place ≡ self.place + places_of (seq_of items.now) }
-        ensures found { result.found ≡ self.found }
-    {
-        let mut place = self.place;
-        for item in items {
-            place += item_places(item);
-        }
-        Search {
-            place,
+            rule: self.rule,
+            process: self.process + 1,
             found: self.found,
         }
     }

@@ -15,7 +15,7 @@ walk_item-loop-seq-init g t c = rw (c.nothing-walked.ensures.next, c.nothing-wal
   fits = refl;
   begins = refl;
   ends = refl;
-  going = λ ps bs ns cs k. choosing_start _ _ _ _ _ _ k;
+  going = λ ps bs ns cs x k. choosing_start _ _ _ _ _ _ k;
 })
 
 pub walk_item-loop-seq-preserved : goal.walk_item-loop-seq-preserved
@@ -29,23 +29,23 @@ walk_item-loop-seq-preserved g t c =
       fits = omega (arith, c.loop-seq.invariant.fits, count);
       begins = begins_next _ _ _ _ _ _ more c.loop-seq.invariant.begins;
       ends = lasts_next _ _ _ _ _ _ more c.loop-seq.invariant.ends;
-      going = λ ps bs ns cs k. choosing_next _ _ _ _ _ _ _ _ _ _ more (c.loop-seq.invariant.going ps bs ns cs k)
-          (λ b n d h. c.walk_seq.ensures.knows ps b n d [] (sym c.none.ensures) h) refl;
+      going = λ ps bs ns cs x k. choosing_next _ _ _ _ _ _ _ _ _ _ more (c.loop-seq.invariant.going ps bs ns cs x k)
+          (λ b n d h. c.walk_seq.ensures.knows ps b n d [] x (sym c.none.ensures) h) refl;
     })
 
 pub walk_item-returns-clause-knows : goal.walk_item-returns-clause-knows
 walk_item-returns-clause-knows g t c = elim c.match-item.branch [
-  | walk_item-in-Burst w ↦ rw (w.in-Burst.is, sym w.as_slice.ensures) (λ ps bs ns cs earlier e k.
+  | walk_item-in-Burst w ↦ rw (w.in-Burst.is, sym w.as_slice.ensures) (λ ps bs ns cs earlier x e k.
       let K = g.V.Visit.Knows c.match-item.visit ps in
       let L = g.V.Visit.Knows c.neighbours.new.self ps in
       let one : Burst = record { place = c.args.first; marks = w.as_slice.result.now } in
-      let known : K (bs ++ one ∷ []) ns cs = rw w.visit-is (w.walk_burst-walked.ensures.knows ps bs ns cs k) in
+      let known : K (bs ++ one ∷ []) ns cs = rw w.visit-is (w.walk_burst-walked.ensures.knows ps bs ns cs x k) in
       let begins : first_of_each (one ∷ []) ≡ c.match-item.walked.begins = rw w.walked-is (sym w.walk_burst-walked.ensures.begins) in
       met_last L (bs ++ one ∷ []) ns [] (record { ends = earlier; begins = one ∷ [] }) (cs ++ [])
       (c.neighbours.ensures ps (bs ++ one ∷ []) (ns ++ []) (cs ++ []) (record { ends = earlier; begins = one ∷ [] })
       (met_is (record { ends = earlier; begins = one ∷ [] }) c.args.before c.match-item.walked.begins e begins)
       (nothing_more K (bs ++ one ∷ []) ns cs known)))
-  | walk_item-in-Alt+else-loop-seq-test w ↦ rw (w.in-Alt.is, sym w.as_slice-seq-items.ensures) (λ ps bs ns cs earlier e k.
+  | walk_item-in-Alt+else-loop-seq-test w ↦ rw (w.in-Alt.is, sym w.as_slice-seq-items.ensures) (λ ps bs ns cs earlier m e k.
       let xs = w.as_slice-seq-items.result.now in
       let S : TSeqs = seqs_of xs in
       let x : ℕ = c.args.first in
@@ -57,7 +57,7 @@ walk_item-returns-clause-knows g t c = elim c.match-item.branch [
       let B : List Burst = bs ++ bursts_among x S in
       let all : List Neighbours = ns ++ neighbours_among x S in
       let ended : seqs_of (drop w.loop-seq.seq-index xs) ≡ Stop = ap seqs_of (drop_all w.loop-seq.seq-index xs (omega (arith, w.loop-seq-test.false))) in
-      let done : M B all (cs ++ choices_among x S) = choosing_done M _ _ _ _ _ ended (i.going ps bs ns cs k) in
+      let done : M B all (cs ++ choices_among x S) = choosing_done M _ _ _ _ _ ended (i.going ps bs ns cs m k) in
       let starts : first_of_each (firsts_among x S) ≡ w.loop-seq.walked.begins = among_done _ _ _ _ ended i.begins in
       let stops : first_of_each (lasts_among x S) ≡ w.loop-seq.walked.ends = among_ended _ _ _ _ ended i.ends in
       let chosen : N B all ((cs ++ choices_among x S) ++ alternatives x S ∷ []) =
@@ -74,7 +74,7 @@ walk_seq-loop-item-init g t c = record {
   fits = refl;
   begins = refl;
   ends = rw c.none-ends.ensures (ends_of_seq c.args.first (seq_of c.as_slice-item-items.result.now));
-  going = λ ps bs ns cs earlier e k. going_start _ _ _ _ _ _ _ earlier e k;
+  going = λ ps bs ns cs earlier x e k. going_start _ _ _ _ _ _ _ earlier e k;
 }
 
 pub walk_seq-loop-item-preserved : goal.walk_seq-loop-item-preserved
@@ -88,8 +88,8 @@ walk_seq-loop-item-preserved g t c =
       fits = omega (arith, c.loop-item.invariant.fits, count);
       begins = ap (λ s. begins_or c.loop-item.begins (first_of_each (firsts_of c.loop-item.place s))) (sym more) ∙ c.loop-item.invariant.begins;
       ends = ap (λ s. ends_after c.loop-item.ends c.loop-item.place s) (sym more) ∙ c.loop-item.invariant.ends;
-      going = λ ps bs ns cs earlier e k. going_next _ _ _ _ _ _ _ _ _ _ _ _ more (c.loop-item.invariant.going ps bs ns cs earlier e k)
-          (λ b n d before m h. c.walk_item-walked.ensures.knows ps b n d before m h) refl refl;
+      going = λ ps bs ns cs earlier x e k. going_next _ _ _ _ _ _ _ _ _ _ _ _ more (c.loop-item.invariant.going ps bs ns cs earlier x e k)
+          (λ b n d before m h. c.walk_item-walked.ensures.knows ps b n d before x m h) refl refl;
     })
 
 pub walk_seq-returns-clause-knows : goal.walk_seq-returns-clause-knows
@@ -97,4 +97,4 @@ walk_seq-returns-clause-knows g t c =
     let xs = c.as_slice-item-items.result.now in
     let whole : c.args.seq.now ≡ seq_of xs = sym c.seq.view_is ∙ ap seq_of (sym c.as_slice-item-items.ensures) in
     let ended : seq_of (drop c.loop-item.item-index xs) ≡ Done = ap seq_of (drop_all c.loop-item.item-index xs (omega (arith, c.loop-item-test.false))) in
-    rw whole (λ ps bs ns cs earlier e k. going_done _ _ _ _ _ _ _ ended (c.loop-item.invariant.going ps bs ns cs earlier e k))
+    rw whole (λ ps bs ns cs earlier x e k. going_done _ _ _ _ _ _ _ ended (c.loop-item.invariant.going ps bs ns cs earlier x e k))

@@ -1,30 +1,35 @@
-use Rattle.std.proofs.Common.{◌≡◌, ◌+◌, List, [], ◌∷◌, ◌++◌, drop, ap, refl, arith}
-use Rattle.std.proofs.lemmas.List.{drop_all}
+use Rattle.std.proofs.Common.{◌≡◌, ◌+◌, List, [], ◌∷◌, ◌++◌, drop, take, length, get_or, ap, sym, ◌∙◌, subst, arith}
+use Rattle.std.proofs.lemmas.List.{take_more, take_all, length-take}
 use Rattle.cmd_tree.specs.declared.tree.Proc.{Proc}
 use Rattle.cmd_tree.specs.Limits.{places_of_proc, places_of_all}
-use Rattle.cmd_tree.proofs.Walking.{drop_next, passing_start, passing_next, passing_done}
+use Rattle.cmd_tree.proofs.Walking.{drop_next}
 use Rattle.cmd_tree.proofs.visit.walk.Goals as goal
-
-pub loop-process-init : goal.loop-process-init
-loop-process-init g c = record {
-  fits = omega (arith, c.requires);
-  passing = λ ps k. passing_start _ ps _ k;
-}
 
 pub walk_process-requires : goal.walk_process-requires
 walk_process-requires g c =
-    let more = drop_next c.args.procs.now c.loop-process.process-index c.process-item.result c.loop-process-test.true c.process-item.is in
-    let count : places_of_all (drop c.loop-process.process-index c.args.procs.now) ≡ places_of_proc c.process-item.result + places_of_all (drop (c.loop-process.process-index + 1) c.args.procs.now) = ap places_of_all more in
-    omega (arith, c.loop-process.invariant.fits, count)
+    let ps = c.args.procs.now in
+    let i = c.loop-index.index in
+    let more = drop_next ps i c.index-procs-index.result c.loop-index-test.true c.index-procs-index.is in
+    let count : places_of_all (drop i ps) ≡ places_of_proc c.index-procs-index.result + places_of_all (drop (i + 1) ps) = ap places_of_all more in
+    omega (arith, c.loop-index.invariant.fits, count)
 
-pub loop-process-preserved : goal.loop-process-preserved
-loop-process-preserved g c =
-    let more = drop_next c.args.procs.now c.loop-process.process-index c.process-item.result c.loop-process-test.true c.process-item.is in
-    let count : places_of_all (drop c.loop-process.process-index c.args.procs.now) ≡ places_of_proc c.process-item.result + places_of_all (drop (c.loop-process.process-index + 1) c.args.procs.now) = ap places_of_all more in
+pub loop-index-preserved : goal.loop-index-preserved
+loop-index-preserved g c =
+    let ps = c.args.procs.now in
+    let i = c.loop-index.index in
+    let p = c.index-procs-index.result in
+    let more = drop_next ps i p c.loop-index-test.true c.index-procs-index.is in
+    let count : places_of_all (drop i ps) ≡ places_of_proc p + places_of_all (drop (i + 1) ps) = ap places_of_all more in
+    let seen : take i ps ++ p ∷ [] ≡ take (i + 1) ps =
+    ap (λ (q : Proc). take i ps ++ q ∷ []) c.index-procs-index.is ∙ sym (take_more ps i p c.loop-index-test.true) in
+    let number : i + 1 ≡ length (take i ps) + 1 = omega (arith, length-take i ps, c.loop-index-test.true) in
+    let K : List Proc → Type 0 = λ qs. g.V.Visit.Knows c.walk_process.new.visit qs [] [] [] in
     record {
-      fits = omega (arith, c.loop-process.invariant.fits, count);
-      passing = λ ps k. passing_next _ _ _ _ _ _ more (c.loop-process.invariant.passing ps k) c.walk_process.ensures;
+      fits = omega (arith, c.loop-index.invariant.fits, count);
+      knows = λ k. subst K seen (c.walk_process.ensures (take i ps) number (c.loop-index.invariant.knows k));
     }
 
 pub returns : goal.returns
-returns g c = λ ps k. passing_done _ _ _ (drop_all c.loop-process.process-index c.args.procs.now (omega (arith, c.loop-process-test.false))) (c.loop-process.invariant.passing ps k)
+returns g c = λ k.
+    let K : List Proc → Type 0 = λ qs. g.V.Visit.Knows c.loop-index.visit qs [] [] [] in
+    subst K (take_all c.loop-index.index c.args.procs.now c.loop-index-test.false) (c.loop-index.invariant.knows k)

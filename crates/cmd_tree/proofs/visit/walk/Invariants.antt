@@ -1,12 +1,10 @@
-use Rattle.std.proofs.Common.{◌+◌, ◌<◌, ◌^◌, List, [], ◌++◌, drop}
+use Rattle.std.proofs.Common.{◌≡◌, ◌+◌, ◌<◌, ◌^◌, List, [], ◌++◌, drop, take, length}
 use Rattle.cmd_tree.specs.declared.tree.Proc.{Proc}
 use Rattle.cmd_tree.specs.Limits.{places_of_all}
-use Rattle.cmd_tree.proofs.Walking.{Passing}
 use Rattle.cmd_tree.proofs.visit.walk.Given as goal
 
-abbrev pub invariant-loop-process : goal.invariant-loop-process
-invariant-loop-process g l = record {
-  fits : places_of_all (drop l.process-index l.procs) + 1 < 2 ^ 32;
-  passing : (ps : List Proc) → g.V.Visit.Knows l.initial.visit ps [] [] []
-      → Passing (λ qs. g.V.Visit.Knows l.visit qs [] [] []) (drop l.process-index l.procs) (ps ++ l.procs);
+abbrev pub invariant-loop-index : goal.invariant-loop-index
+invariant-loop-index g l = record {
+  fits : places_of_all (drop l.index l.procs) + 1 < 2 ^ 32;
+  knows : g.V.Visit.Knows l.initial.visit [] [] [] [] → g.V.Visit.Knows l.visit (take l.index l.procs) [] [] [];
 }
