@@ -13,3 +13,4 @@ pub mod G7Directions
 pub mod G8Granted
 pub mod G9Homes
 pub mod Rules
+pub mod Mirror

@@ -2,5 +2,8 @@
 #![tactic(auto)]
 
 mod broken;
+mod g2_neighbours;
+mod g3_rounds;
+mod search;
 
 pub use broken::Broken;

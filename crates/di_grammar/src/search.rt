@@ -1,6 +1,6 @@
-//! The least place so far that breaks a rule.
-ghost use Rattle.std.specs.Prelude.{◌≡◌, ◌+◌, ◌<◌, ◌^◌, Some, None};
-ghost use Rattle.di_grammar.specs.Mirror.Searches.{lesser, met_in};
+//! The least place that breaks a rule: of the process under way, and of the first process that has one.
+ghost use Rattle.std.specs.Prelude.{◌≡◌, None};
+ghost use Rattle.di_grammar.specs.Mirror.Searches.{precedes, lesser, broken_at, earliest};
 
 use crate::broken::Broken;
 
@@ -11,53 +11,86 @@ pub struct Pair {
     pub other: u32,
 }
 
-/// The search for the least place that breaks a rule, in the process with this number.
+/// The search for the least process that breaks a rule, and in it the least place.
 #[derive(Debug, Clone, Copy, PartialEq, Eq)]
 pub struct Search {
     pub rule: u8,
-    pub process: u32,
     pub found: Option<Broken>,
+    /// In the process under way.
+    pub here: Option<Pair>,
 }
 
 impl Search {
-    /// Before the first process.
     pub fn of(rule: u8) -> Search
-        ensures rule { result.rule ≡ rule }
-        ensures process { result.process ≡ 1 }
-        ensures found { result.found ≡ None }
+        ensures { result ≡ record { rule = rule; found = None; here = None } }
     {
         Search {
             rule,
-            process: 1,
             found: None,
+            here: None,
         }
     }
 
-    /// After a place of the process that breaks the rule, if there is one.
+    /// After one more place of the process under way, if there is one.
     pub fn meet(self, pair: Option<Pair>) -> Search
-        ensures rule { result.rule ≡ self.rule }
-        ensures process { result.process ≡ self.process }
-        ensures found { result.found ≡ lesser self.found (met_in self.rule self.process pair) }
+        ensures { result ≡ record self { here = lesser self.here pair } }
     {
-        let broken = pair.map(|pair| self.broken(pair));
         Search {
-            rule: self.rule,
-            process: self.process,
-            found: lesser(self.found, broken),
+            here: lesser(self.here, pair),
+            ..self
         }
     }
 
-    /// At the end of the process.
-    pub fn next(self) -> Search
-        requires { self.process + 1 < 2 ^ 32 }
-        ensures rule { result.rule ≡ self.rule }
-        ensures process { result.process ≡ self.process + 1 }
-        ensures found { result.found ≡ self.found }
+    /// After the process with this number.
+    pub fn end(self, number: u32) -> Search
+        ensures { result ≡ record self { found = earliest self.found (broken_at self.rule number self.here); here = None } }
     {
         Search {
-            rule: self.rule,
-            process: self.process + 1,
-            found: self.found,
+            found: earliest(self.found, broken_at(self.rule, number, self.here)),
+            here: None,
+            ..self
         }
+    }
+}
+
+fn precedes(first: Pair, second: Pair) -> bool
+    ensures { result ≡ precedes first second }
+{
+    first.place < second.place || (first.place == second.place && first.other < second.other)
+}
+
+/// The lesser of two places; the first where neither precedes the other.
+fn lesser(first: Option<Pair>, second: Option<Pair>) -> Option<Pair>
+    ensures { result ≡ lesser first second }
+{
+    match (first, second) {
+        (None, _) => second,
+        (_, None) => first,
+        (Some(one), Some(other)) => { if precedes(other, one) { second } else { first } }
+    }
+}
+
+/// What is told of a place of the process with this number.
+fn broken_at(rule: u8, number: u32, pair: Option<Pair>) -> Option<Broken>
+    ensures { result ≡ broken_at rule number pair }
+{
+    match pair {
+        None => None,
+        Some(pair) => Some(Broken {
+            rule,
+            process: number,
+            place: pair.place,
+            other_process: number,
+            other: pair.other,
+        }),
+    }
+}
+
+fn earliest(first: Option<Broken>, second: Option<Broken>) -> Option<Broken>
+    ensures { result ≡ earliest first second }
+{
+    match first {
+        None => second,
+        Some(_) => first,
     }
 }

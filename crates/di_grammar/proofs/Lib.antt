@@ -1,0 +1,4 @@
+mod Searching
+mod Members
+mod Rising
+mod Clashing
