@@ -88,17 +88,20 @@ pair_least : (d : Dir) (ones others : List Burst) (a b : Option ℕ) → Tells d
 pair_least d ones others None b t u = λ place other. λ (c, e). t c.one c.of_one e
 pair_least d ones others (Some x) None t u = λ place other. λ (c, e). u c.against c.of_other (sym c.same ∙ e)
 pair_least d ones others (Some x) (Some y) t u = (
-  (record {
-    one = t.burst;
-    against = u.burst;
-    of_one = t.among;
-    of_other = u.among;
-    same = t.dir ∙ sym u.dir;
-    at = t.at;
-    at_other = u.at;
-  }, t.dir),
+  (
+    record {
+      one = t.burst;
+      against = u.burst;
+      of_one = t.among;
+      of_other = u.among;
+      same = t.dir ∙ sym u.dir;
+      at = t.at;
+      at_other = u.at;
+    },
+    t.dir,
+  ),
   λ place other. λ (c, e). le_before (record { place = x; other = y }) place other
-  (omega (arith, t.least c.one c.of_one e, c.at)) (omega (arith, u.least c.against c.of_other (sym c.same ∙ e), c.at_other)),
+      (omega (arith, t.least c.one c.of_one e, c.at)) (omega (arith, u.least c.against c.of_other (sym c.same ∙ e), c.at_other)),
 )
 
 clash_by : (ones others : List Burst) (place other : ℕ) (c : Clash ones others place other) → ClashAt Input ones others place other ⊎ ClashAt Output ones others place other

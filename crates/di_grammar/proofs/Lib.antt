@@ -2,3 +2,4 @@ mod Searching
 mod Members
 mod Rising
 mod Clashing
+mod GrantSteps

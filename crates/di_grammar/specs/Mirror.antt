@@ -1,3 +1,5 @@
 -- What the proofs of the code need, and nobody has to believe.
 pub mod Searches
 pub mod Clashes
+pub mod Granting
+pub mod GrantParts
