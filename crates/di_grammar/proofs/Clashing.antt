@@ -21,7 +21,7 @@ use Rattle.di_grammar.proofs.Searching.{searching_start, searching_meet, searchi
 use Rattle.di_grammar.proofs.Rising.{rising_neighbours, rising_turn}
 
 -- ---- directions
-dir_same : (d e : Dir) → ((same_dir d e ≡ true) × (d ≡ e)) ⊎ ((same_dir d e ≡ false) × (d ≢ e))
+pub dir_same : (d e : Dir) → ((same_dir d e ≡ true) × (d ≡ e)) ⊎ ((same_dir d e ≡ false) × (d ≢ e))
 dir_same Input Input = inl (refl, refl)
 dir_same Input Output = inr (refl, λ e. cc)
 dir_same Output Input = inr (refl, λ e. cc)
@@ -29,11 +29,11 @@ dir_same Output Output = inl (refl, refl)
 
 -- what the place of the first burst of a direction tells
 pub record FirstOf (d : Dir) (bs : List Burst) (k : ℕ) : Type 0 where
-  burst : Burst
-  among : Among burst bs
-  dir : dir_of burst.marks ≡ d
-  at : k ≡ burst.place
-  least : (b : Burst) → Among b bs → dir_of b.marks ≡ d → k ≤ b.place
+  pub burst : Burst
+  pub among : Among burst bs
+  pub dir : dir_of burst.marks ≡ d
+  pub at : k ≡ burst.place
+  pub least : (b : Burst) → Among b bs → dir_of b.marks ≡ d → k ≤ b.place
 
 abbrev pub Tells : Dir → List Burst → Option ℕ → Type 0
 Tells d bs None = (b : Burst) → Among b bs → dir_of b.marks ≡ d → ⊥
@@ -71,7 +71,7 @@ first_tells d (b ∷ bs) r = elim (dir_same (dir_of b.marks) d) [
   | inr (e, differ) ↦ rw e (first_later d b bs (first_with d bs) differ (first_tells d bs r.1))
 ]
 
-tells_at : (d : Dir) (bs : List Burst) (a : Option ℕ) → first_with d bs ≡ a → Rising bs → Tells d bs a
+pub tells_at : (d : Dir) (bs : List Burst) (a : Option ℕ) → first_with d bs ≡ a → Rising bs → Tells d bs a
 tells_at d bs a e r = let P : Option ℕ → Type 0 = Tells d bs in subst P e (first_tells d bs r)
 
 -- ---- clashes of one direction
@@ -81,7 +81,7 @@ ClashAt d ones others place other = (c : Clash ones others place other) × (dir_
 le_split : (m n : ℕ) → m ≤ n → (m < n) ⊎ (m ≡ n)
 le_split m n h = elim (eqb_tells m n) [ inl (e, same) ↦ inr same | inr (e, differ) ↦ inl (omega (arith, h, differ)) ]
 
-le_before : (x : Pair) (place other : ℕ) → x.place ≤ place → x.other ≤ other → Before x place other
+pub le_before : (x : Pair) (place other : ℕ) → x.place ≤ place → x.other ≤ other → Before x place other
 le_before x place other h k = elim (le_split x.place place h) [ inl l ↦ inl l | inr e ↦ inr (e, k) ]
 
 pair_least : (d : Dir) (ones others : List Burst) (a b : Option ℕ) → Tells d ones a → Tells d others b → Least (ClashAt d ones others) (pair_of a b)

@@ -3,3 +3,4 @@ mod Members
 mod Rising
 mod Clashing
 mod GrantSteps
+mod ChoiceSteps

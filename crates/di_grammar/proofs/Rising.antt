@@ -4,9 +4,11 @@ use Rattle.std.specs.List.{AllByRecursion}
 use Rattle.cmd_tree.specs.declared.tree.Proc.{Proc}
 use Rattle.cmd_tree.specs.Tree.{TItem, TSeq, TSeqs, TBurst, TAlt, Stop, Or, Done, Then, places_of, places_in, places_among}
 use Rattle.cmd_tree.specs.Limits.{of_part}
-use Rattle.cmd_tree.specs.Bursts.{Burst, Neighbours, bursts_of, bursts_in, bursts_among, firsts_of, firsts_in, firsts_among, lasts_of, lasts_in, lasts_among, neighbours_of, neighbours_in, neighbours_among, neighbours, turn, body_place, text_of, bursts}
+use Rattle.cmd_tree.specs.Bursts.{Burst, Neighbours, bursts_of, bursts_in, bursts_among, firsts_of, firsts_in, firsts_among, lasts_of, lasts_in, lasts_among, neighbours_of, neighbours_in, neighbours_among, neighbours, turn, body_place, text_of, bursts, Alternative, alternatives, all_begins, all_ends, choices, choices_of, choices_in, choices_among}
+use Rattle.cmd_tree.proofs.Walking.{begins_all, ends_all}
 use Rattle.di_grammar.specs.Lists.{Among, EachTwo}
 use Rattle.di_grammar.specs.Mirror.Clashes.{Rising, AreRising}
+use Rattle.di_grammar.specs.Mirror.ChoiceEnds.{AreRisingChoices}
 use Rattle.di_grammar.proofs.Members.{all_join}
 
 -- the bursts stand from place k on and end by place n, and their places do not fall
@@ -126,3 +128,25 @@ rising_turn p = by (body_place p) p.body
     by : (k : ℕ) (b : Option TSeq) → Rising (of_part [] (lasts_of k) b) × Rising (of_part [] (firsts_of k) b)
     by k None = (tt, tt)
     by k (Some s) = ((lasts_within k s).rising, (firsts_within k s).rising)
+
+-- the first and the last bursts of all alternatives
+mutual
+  choices_rising : (k : ℕ) (s : TSeq) → AreRisingChoices (choices_of k s)
+  choices_rising k Done = tt
+  choices_rising k (Then i s) =
+      all_join (λ c. Rising (all_begins c) × Rising (all_ends c)) (choices_in k i) (choices_of (k + places_in i) s) (choices_rising_in k i) (choices_rising (k + places_in i) s)
+
+  choices_rising_in : (k : ℕ) (i : TItem) → AreRisingChoices (choices_in k i)
+  choices_rising_in k (TBurst ms) = tt
+  choices_rising_in k (TAlt ss) =
+      let P : List Burst → Type 0 = Rising in
+      all_join (λ c. Rising (all_begins c) × Rising (all_ends c)) (choices_among k ss) (alternatives k ss ∷ []) (choices_rising_among k ss)
+      ((subst P (sym (begins_all k ss)) (firsts_within_among k ss).rising, subst P (sym (ends_all k ss)) (lasts_within_among k ss).rising), tt)
+
+  choices_rising_among : (k : ℕ) (ss : TSeqs) → AreRisingChoices (choices_among k ss)
+  choices_rising_among k Stop = tt
+  choices_rising_among k (Or s ss) =
+      all_join (λ c. Rising (all_begins c) × Rising (all_ends c)) (choices_of k s) (choices_among (k + places_of s) ss) (choices_rising k s) (choices_rising_among (k + places_of s) ss)
+
+pub rising_choices : (p : Proc) → AreRisingChoices (choices p)
+rising_choices p = choices_rising 1 (text_of p)

@@ -9,8 +9,9 @@ use Rattle.di_grammar.specs.declared.search.Pair.{Pair}
 use Rattle.di_grammar.specs.declared.search.Search.{Search}
 use Rattle.di_grammar.specs.Told.{LessOr, Precedes, Told}
 use Rattle.di_grammar.specs.Spots.{NumberedFrom, Numbered}
-use Rattle.di_grammar.specs.Rules.{InProcess}
-use Rattle.di_grammar.specs.Mirror.Searches.{precedes, lesser, broken_at, earliest, Before, Least, Nothing, Searching}
+use Rattle.di_grammar.specs.Rules.{InProcess, ExceptGrants}
+use Rattle.di_grammar.specs.Mirror.Granting.{DecidesGrant}
+use Rattle.di_grammar.specs.Mirror.Searches.{precedes, lesser, broken_at, earliest, unless, Before, Least, Nothing, Searching}
 
 -- ---- the least of places
 before_by : (x y : Pair) (a b c : Bool) → nat_lt y.place x.place ≡ a → nat_eq y.place x.place ≡ b → nat_lt y.other x.other ≡ c
@@ -154,3 +155,16 @@ searching_end rule B p s t ps number n w e =
       earlier = subst Q (sym w.of) (told_end rule B p ps s.found s.here number n w.earlier w.here);
       here = λ place other h. h;
     })
+
+-- over one more process of a rule from which grants are excepted
+pub searching_except : (rule : ℕ) (B : Proc → ℕ → ℕ → Type 0) (p : Proc) (s t : Search) (ps : List Proc) (number : ℕ) (grant : Bool) → number ≡ length ps + 1
+    → DecidesGrant p grant → Searching rule (ExceptGrants B) (B p) s ps
+    → t ≡ record s { found = earliest s.found (broken_at s.rule number (unless grant s.here)); here = None } → Searching rule (ExceptGrants B) Nothing t (ps ++ p ∷ [])
+searching_except rule B p s t ps number grant n (inl (so, is)) w e =
+    let P : Bool → Type 0 = λ b. t ≡ record s { found = earliest s.found (broken_at s.rule number (unless b s.here)); here = None } in
+    searching_end rule (ExceptGrants B) p (record s { here = None }) t ps number n
+    (record { of = w.of; earlier = w.earlier; here = λ place other. λ (none, b). none is }) (subst P so e)
+searching_except rule B p s t ps number grant n (inr (so, none)) w e =
+    let P : Bool → Type 0 = λ b. t ≡ record s { found = earliest s.found (broken_at s.rule number (unless b s.here)); here = None } in
+    searching_end rule (ExceptGrants B) p s t ps number n
+    (searching_same rule (ExceptGrants B) (B p) (ExceptGrants B p) s ps (λ place other b. (none, b)) (λ place other. λ (m, b). b) w) (subst P so e)

@@ -16,10 +16,10 @@ pub record BeginsAndEnds (c : List Alternative) : Type 0 where
 abbrev pub KeepsChoices : Proc → Type 0
 KeepsChoices p = AllByRecursion BeginsAndEnds (choices p)
 
--- an alternative of a choice begins with an output burst at this place
-pub record BeginsWithOutput (p : Proc) (place : ℕ) : Type 0 where
+-- an alternative of one of the choices begins with an output burst at this place
+pub record BeginsWithOutput (cs : List (List Alternative)) (place : ℕ) : Type 0 where
   pub choice : List Alternative
-  pub of : Among choice (choices p)
+  pub of : Among choice cs
   pub burst : Burst
   pub begin : Among burst (all_begins choice)
   pub out : dir_of burst.marks ≡ Output
@@ -33,5 +33,5 @@ EndsOtherwise (f ∷ bs) place other = (b : Burst) × Among b bs × (dir_of b.ma
 -- the first of the two where a place breaks the rule in both ways
 abbrev pub BreaksChoices : Proc → ℕ → ℕ → Type 0
 BreaksChoices p place other =
-    (BeginsWithOutput p place × (other ≡ place))
-    ⊎ ((c : List Alternative) × Among c (choices p) × EndsOtherwise (all_ends c) place other × (BeginsWithOutput p place → ⊥))
+    (BeginsWithOutput (choices p) place × (other ≡ place))
+    ⊎ ((c : List Alternative) × Among c (choices p) × EndsOtherwise (all_ends c) place other × (BeginsWithOutput (choices p) place → ⊥))

@@ -3,3 +3,4 @@ pub mod Searches
 pub mod Clashes
 pub mod Granting
 pub mod GrantParts
+pub mod ChoiceEnds

@@ -4,6 +4,7 @@
 mod broken;
 mod g2_neighbours;
 mod g3_rounds;
+mod g4_choices;
 mod grant;
 mod search;
 

@@ -1,6 +1,6 @@
 //! The least place that breaks a rule: of the process under way, and of the first process that has one.
 ghost use Rattle.std.specs.Prelude.{◌≡◌, None};
-ghost use Rattle.di_grammar.specs.Mirror.Searches.{precedes, lesser, broken_at, earliest};
+ghost use Rattle.di_grammar.specs.Mirror.Searches.{precedes, lesser, broken_at, earliest, unless};
 
 use crate::broken::Broken;
 
@@ -41,6 +41,14 @@ impl Search {
         }
     }
 
+    /// After the process with this number, whose places do not count where it is excepted.
+    pub fn end_unless(self, number: u32, excepted: bool) -> Search
+        ensures { result ≡ record self { found = earliest self.found (broken_at self.rule number (unless excepted self.here)); here = None } }
+    {
+        let here = if excepted { None } else { self.here };
+        Search { here, ..self }.end(number)
+    }
+
     /// After the process with this number.
     pub fn end(self, number: u32) -> Search
         ensures { result ≡ record self { found = earliest self.found (broken_at self.rule number self.here); here = None } }
@@ -60,7 +68,7 @@ fn precedes(first: Pair, second: Pair) -> bool
 }
 
 /// The lesser of two places; the first where neither precedes the other.
-fn lesser(first: Option<Pair>, second: Option<Pair>) -> Option<Pair>
+pub fn lesser(first: Option<Pair>, second: Option<Pair>) -> Option<Pair>
     ensures { result ≡ lesser first second }
 {
     match (first, second) {

@@ -1,5 +1,5 @@
 -- Mirror of the search for the least place that breaks a rule.
-use Rattle.std.specs.Prelude.{◌≡◌, ◌≤◌, ℕ, List, Bool, ◌&&◌, ◌||◌, nat_lt, nat_eq, if◌then◌else◌, Option, Some, None}
+use Rattle.std.specs.Prelude.{◌≡◌, ◌≤◌, ℕ, List, Bool, true, false, ◌&&◌, ◌||◌, nat_lt, nat_eq, if◌then◌else◌, Option, Some, None}
 use Rattle.di_grammar.specs.declared.broken.Broken.{Broken}
 use Rattle.cmd_tree.specs.declared.tree.Proc.{Proc}
 use Rattle.di_grammar.specs.declared.search.Pair.{Pair}
@@ -20,6 +20,10 @@ abbrev pub broken_at : ℕ → ℕ → Option Pair → Option Broken
 broken_at rule number None = None
 broken_at rule number (Some x) =
     Some (record { rule = rule; process = number; place = x.place; other_process = number; other = x.other })
+
+abbrev pub unless : Bool → Option Pair → Option Pair
+unless true x = None
+unless false x = x
 
 abbrev pub earliest : Option Broken → Option Broken → Option Broken
 earliest None b = b
