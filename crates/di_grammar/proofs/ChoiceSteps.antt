@@ -156,8 +156,7 @@ preferred_least B E (Some x) (Some y) h k = by (nat_lt y.place x.place) refl
 
     by : (t : Bool) → nat_lt y.place x.place ≡ t → Least (λ place other. (B place × (other ≡ place)) ⊎ (E place other × (B place → ⊥))) (if t then Some y else Some x)
     by true e =
-        let less : y.place < x.place = ltb-true y.place x.place e in
-        (
+        let less : y.place < x.place = ltb-true y.place x.place e in (
           inr (k.0, λ z. absurd (omega (arith, less, low x y.place y.place (h.1 y.place y.place (z, refl))))),
           λ place other. elim [
             | inl z ↦ inl (omega (arith, less, low x place other (h.1 place other z)))
@@ -165,8 +164,7 @@ preferred_least B E (Some x) (Some y) h k = by (nat_lt y.place x.place) refl
           ],
         )
     by false e =
-        let le : x.place ≤ y.place = ltb-false y.place x.place e in
-        (
+        let le : x.place ≤ y.place = ltb-false y.place x.place e in (
           inl h.0,
           λ place other. elim [
             | inl z ↦ h.1 place other z

@@ -4,3 +4,5 @@ mod Rising
 mod Clashing
 mod GrantSteps
 mod ChoiceSteps
+mod TableSteps
+mod EvenSteps

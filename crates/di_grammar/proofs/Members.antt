@@ -1,8 +1,10 @@
 -- What stands in a list, over lists put together.
-use Rattle.std.proofs.Common.{◌≡◌, List, [], ◌∷◌, ◌++◌, sym, refl, subst, inl, inr}
-use Rattle.std.specs.Prelude.{◌⊎◌}
+use Rattle.std.proofs.Common.{◌≡◌, ℕ, zero, suc, Some, List, [], ◌∷◌, ◌++◌, sym, refl, subst, inl, inr}
+use Rattle.std.specs.Prelude.{◌⊎◌, slice_get}
 use Rattle.std.specs.List.{AllByRecursion}
-use Rattle.di_grammar.specs.Lists.{Among}
+use Rattle.cmd_tree.specs.declared.tree.Mark.{Mark}
+use Rattle.di_grammar.specs.Lists.{Among, EachTwo}
+use Rattle.di_grammar.specs.Sets.{Stands}
 
 pub among_append : {A : Type 0} (x : A) (xs ys : List A) → Among x (xs ++ ys) → Among x xs ⊎ Among x ys
 among_append x [] ys h = inr h
@@ -30,3 +32,31 @@ all_append P (x ∷ xs) ys h = let r = all_append P xs ys h.1 in ((h.0, r.0), r.
 pub all_join : {A : Type 0} (P : A → Type 0) (xs ys : List A) → AllByRecursion P xs → AllByRecursion P ys → AllByRecursion P (xs ++ ys)
 all_join P [] ys h k = k
 all_join P (x ∷ xs) ys h k = (h.0, all_join P xs ys h.1 k)
+
+-- ---- symbols of marks
+pub stands_append : (a : ℕ) (ms ns : List Mark) → Stands a (ms ++ ns) → Stands a ms ⊎ Stands a ns
+stands_append a [] ns h = inr h
+stands_append a (m ∷ ms) ns (inl e) = inl (inl e)
+stands_append a (m ∷ ms) ns (inr h) = elim (stands_append a ms ns h) [ inl x ↦ inl (inr x) | inr x ↦ inr x ]
+
+pub stands_left : (a : ℕ) (ms ns : List Mark) → Stands a ms → Stands a (ms ++ ns)
+stands_left a [] ns h = absurd h
+stands_left a (m ∷ ms) ns (inl e) = inl e
+stands_left a (m ∷ ms) ns (inr h) = inr (stands_left a ms ns h)
+
+pub stands_right : (a : ℕ) (ms ns : List Mark) → Stands a ns → Stands a (ms ++ ns)
+stands_right a [] ns h = h
+stands_right a (m ∷ ms) ns h = inr (stands_right a ms ns h)
+
+-- ---- any two of a list
+pub two_append : {A : Type 0} (R : A → A → Type 0) (xs : List A) (y : A) → EachTwo R (xs ++ y ∷ []) → EachTwo R xs × AllByRecursion (λ x. R x y) xs
+two_append R [] y h = (tt, tt)
+two_append R (x ∷ xs) y h =
+    let (a, (b, c)) = all_append (R x) xs (y ∷ []) h.0 in
+    let (d, e) = two_append R xs y h.1 in
+    ((a, d), (b, e))
+
+pub all_at : {A : Type 0} (P : A → Type 0) (xs : List A) (j : ℕ) (x : A) → AllByRecursion P xs → slice_get xs j ≡ Some x → P x
+all_at P [] j x h e = absurd (cc)
+all_at {A} P (y ∷ xs) zero x h e = let same : y ≡ x = cc in subst P same h.0
+all_at P (y ∷ xs) (suc j) x h e = all_at P xs j x h.1 e

@@ -4,3 +4,6 @@ pub mod Clashes
 pub mod Granting
 pub mod GrantParts
 pub mod ChoiceEnds
+pub mod Tables
+pub mod Symbols
+pub mod EvenBursts

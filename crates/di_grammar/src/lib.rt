@@ -2,10 +2,12 @@
 #![tactic(auto)]
 
 mod broken;
+mod g1_bursts;
 mod g2_neighbours;
 mod g3_rounds;
 mod g4_choices;
 mod grant;
 mod search;
+mod table;
 
 pub use broken::Broken;
