@@ -54,10 +54,13 @@ pub mark_least : (k : ℕ) (ms : List Mark) (j : ℕ) (m : Mark) (t : Table) (tu
 mark_least k ms j m t turned e d (inl (below, new)) = elim (leb_tells k (entry t m.sym.0)) [
   | inl (x, le) ↦ absurd (omega (arith, le, below))
   | inr (x, le) ↦ rw x (elim (turned_is ms m turned d) [
-    | inl (y, differ) ↦ rw y (inr (record { mark = m; at = e; turned = differ; new = new }, refl, refl), λ place other. elim [
-      | inl (i, r, p, q) ↦ absurd (none i r)
-      | inr (r, p, q) ↦ le_before (record { place = k + j; other = k }) place other (omega (arith, p)) (omega (arith, q))
-    ])
+    | inl (y, differ) ↦ rw y (
+      inr (record { mark = m; at = e; turned = differ; new = new }, refl, refl),
+      λ place other. elim [
+        | inl (i, r, p, q) ↦ absurd (none i r)
+        | inr (r, p, q) ↦ le_before (record { place = k + j; other = k }) place other (omega (arith, p)) (omega (arith, q))
+      ],
+    )
     | inr (y, same) ↦ rw y (λ place other. elim [
       | inl (i, r, p, q) ↦ none i r
       | inr (r, p, q) ↦ r.turned (ap (λ z. z.dir) (one_mark ms j r.mark m r.at e) ∙ same)
@@ -91,7 +94,7 @@ mark_least k ms j m t turned e d (inr (i, less, first, is)) = elim (leb_tells k 
     least h r = elim (leb_tells i h) [
       | inl (x, le) ↦ le
       | inr (x, le) ↦ absurd (first.new (subst (λ a. Stands a (take i ms)) (r.same ∙ ap (λ z. z.sym.0) (one_mark ms j r.second m r.at_second e))
-        (mark_stands ms h i r.first r.at_first (omega (arith, le)))))
+          (mark_stands ms h i r.first r.at_first (omega (arith, le)))))
     ]
 
 -- ---- the table after one more mark
@@ -108,10 +111,13 @@ entered_next t u k ms j m h e at other kept set k_in a = elim (eqb_tells a m.sym
     own (inr (i, less, first, is)) = inr (i, omega (arith, less), first, kept (omega (arith, is)) ∙ is)
 
     others : a ≢ m.sym.0 → Entered t k ms j a → Entered u k ms (j + 1) a
-    others differ (inl (below, new)) = inl (omega (arith, other a differ, below), λ s. elim (stands_append a (take j ms) (m ∷ []) (subst (λ xs. Stands a xs) (take_mark ms j m h e) s)) [
-      | inl b ↦ new b
-      | inr b ↦ differ (stands_mark a m b)
-    ])
+    others differ (inl (below, new)) = inl (
+      omega (arith, other a differ, below),
+      λ s. elim (stands_append a (take j ms) (m ∷ []) (subst (λ xs. Stands a xs) (take_mark ms j m h e) s)) [
+        | inl b ↦ new b
+        | inr b ↦ differ (stands_mark a m b)
+      ],
+    )
     others differ (inr (i, less, first, is)) = inr (i, omega (arith, less), first, other a differ ∙ is)
 
 -- ---- in the middle of a burst

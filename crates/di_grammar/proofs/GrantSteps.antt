@@ -77,7 +77,7 @@ release_is (Then i (Then j Done)) p e =
 release_is (Then i (Then j (Then k s))) p e = absurd (cc)
 
 -- ---- what all alternatives give
-cons_is : (a : Option ℕ) (o : Option (List ℕ)) (ps : List ℕ) → cons_some a o ≡ Some ps → (q : ℕ) × (qs : List ℕ) × (a ≡ Some q) × (o ≡ Some qs) × (ps ≡ q ∷ qs)
+pub cons_is : (a : Option ℕ) (o : Option (List ℕ)) (ps : List ℕ) → cons_some a o ≡ Some ps → (q : ℕ) × (qs : List ℕ) × (a ≡ Some q) × (o ≡ Some qs) × (ps ≡ q ∷ qs)
 cons_is None o ps e = absurd (cc)
 cons_is (Some q) None ps e = absurd (cc)
 cons_is (Some q) (Some qs) ps e = (q, qs, refl, refl, cc)

@@ -6,3 +6,4 @@ mod GrantSteps
 mod ChoiceSteps
 mod TableSteps
 mod EvenSteps
+mod RegrantSteps

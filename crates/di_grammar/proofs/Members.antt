@@ -3,7 +3,7 @@ use Rattle.std.proofs.Common.{◌≡◌, ℕ, zero, suc, Some, List, [], ◌∷�
 use Rattle.std.specs.Prelude.{◌⊎◌, slice_get}
 use Rattle.std.specs.List.{AllByRecursion}
 use Rattle.cmd_tree.specs.declared.tree.Mark.{Mark}
-use Rattle.di_grammar.specs.Lists.{Among, EachTwo}
+use Rattle.di_grammar.specs.Lists.{Among, AmongTwo, EachTwo}
 use Rattle.di_grammar.specs.Sets.{Stands}
 
 pub among_append : {A : Type 0} (x : A) (xs ys : List A) → Among x (xs ++ ys) → Among x xs ⊎ Among x ys
@@ -60,3 +60,41 @@ pub all_at : {A : Type 0} (P : A → Type 0) (xs : List A) (j : ℕ) (x : A) →
 all_at P [] j x h e = absurd (cc)
 all_at {A} P (y ∷ xs) zero x h e = let same : y ≡ x = cc in subst P same h.0
 all_at P (y ∷ xs) (suc j) x h e = all_at P xs j x h.1 e
+
+pub amongtwo_append : {A : Type 0} (x y : A) (xs ys : List A) → AmongTwo x y (xs ++ ys) → AmongTwo x y xs ⊎ ((Among x xs × Among y ys) ⊎ AmongTwo x y ys)
+amongtwo_append x y [] ys h = inr (inr h)
+amongtwo_append x y (z ∷ zs) ys (inl (e, a)) = elim (among_append y zs ys a) [ inl b ↦ inl (inl (e, b)) | inr b ↦ inr (inl (inl e, b)) ]
+amongtwo_append x y (z ∷ zs) ys (inr h) = elim (amongtwo_append x y zs ys h) [
+  | inl a ↦ inl (inr a)
+  | inr (inl (a, b)) ↦ inr (inl (inr a, b))
+  | inr (inr a) ↦ inr (inr a)
+]
+
+pub amongtwo_across : {A : Type 0} (x y : A) (xs ys : List A) → Among x xs → Among y ys → AmongTwo x y (xs ++ ys)
+amongtwo_across x y [] ys a b = absurd a
+amongtwo_across x y (z ∷ zs) ys (inl e) b = inl (e, among_right y zs ys b)
+amongtwo_across x y (z ∷ zs) ys (inr a) b = inr (amongtwo_across x y zs ys a b)
+
+pub amongtwo_left : {A : Type 0} (x y : A) (xs ys : List A) → AmongTwo x y xs → AmongTwo x y (xs ++ ys)
+amongtwo_left x y [] ys h = absurd h
+amongtwo_left x y (z ∷ zs) ys (inl (e, a)) = inl (e, among_left y zs ys a)
+amongtwo_left x y (z ∷ zs) ys (inr h) = inr (amongtwo_left x y zs ys h)
+
+pub amongtwo_among : {A : Type 0} (x y : A) (xs : List A) → AmongTwo x y xs → Among x xs × Among y xs
+amongtwo_among x y [] h = absurd h
+amongtwo_among x y (z ∷ zs) (inl (e, a)) = (inl e, inr a)
+amongtwo_among x y (z ∷ zs) (inr h) = let (a, b) = amongtwo_among x y zs h in (inr a, inr b)
+
+pub two_among : {A : Type 0} (R : A → A → Type 0) (x y : A) (xs : List A) → EachTwo R xs → AmongTwo x y xs → R x y
+two_among R x y [] r h = absurd h
+two_among {A} R x y (z ∷ zs) r (inl (e, a)) = all_among (R x) zs y (let P : A → Type 0 = λ w. AllByRecursion (R w) zs in subst P (sym e) r.0) a
+two_among R x y (z ∷ zs) r (inr h) = two_among R x y zs r.1 h
+
+pub two_join : {A : Type 0} (R : A → A → Type 0) (xs : List A) (y : A) → EachTwo R xs → AllByRecursion (λ x. R x y) xs → EachTwo R (xs ++ y ∷ [])
+two_join R [] y r h = (tt, tt)
+two_join R (x ∷ xs) y r h = (all_join (R x) xs (y ∷ []) r.0 (h.0, tt), two_join R xs y r.1 h.1)
+
+-- a fact of each member
+pub all_of : {A : Type 0} (P : A → Type 0) (xs : List A) → ((x : A) → Among x xs → P x) → AllByRecursion P xs
+all_of P [] f = tt
+all_of P (x ∷ xs) f = (f x (inl refl), all_of P xs (λ y a. f y (inr a)))

@@ -7,3 +7,4 @@ pub mod ChoiceEnds
 pub mod Tables
 pub mod Symbols
 pub mod EvenBursts
+pub mod Regrants

@@ -6,6 +6,7 @@ mod g1_bursts;
 mod g2_neighbours;
 mod g3_rounds;
 mod g4_choices;
+mod g8_granted;
 mod grant;
 mod search;
 mod table;
