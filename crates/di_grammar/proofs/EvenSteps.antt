@@ -25,7 +25,7 @@ use Rattle.di_grammar.proofs.Clashing.{le_before, dir_same}
 use Rattle.cmd_tree.specs.Walks.{same_dir}
 
 -- ---- marks by number
-take_mark : (ms : List Mark) (j : ℕ) (m : Mark) → j < length ms → m ≡ get_or ms j m → take (j + 1) ms ≡ take j ms ++ m ∷ []
+pub take_mark : (ms : List Mark) (j : ℕ) (m : Mark) → j < length ms → m ≡ get_or ms j m → take (j + 1) ms ≡ take j ms ++ m ∷ []
 take_mark ms j m h e = take_more ms j m h ∙ ap (λ (x : Mark). take j ms ++ x ∷ []) (sym e)
 
 mark_stands : (ms : List Mark) (i j : ℕ) (m : Mark) → slice_get ms i ≡ Some m → i < j → Stands m.sym.0 (take j ms)

@@ -7,3 +7,4 @@ mod ChoiceSteps
 mod TableSteps
 mod EvenSteps
 mod RegrantSteps
+mod TurnSteps

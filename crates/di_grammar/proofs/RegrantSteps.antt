@@ -48,8 +48,11 @@ first_some ReleaseForm n = omega arith
 
 grantees_from : (k step : ℕ) (ps : List ℕ) → AllByRecursion (λ g. k ≤ g.place) (grantees k step ps)
 grantees_from k step [] = tt
-grantees_from k step (p ∷ ps) = (omega arith, all_of (λ g. k ≤ g.place) (grantees (k + step) step ps)
-  (λ g a. omega (arith, all_among (λ h. k + step ≤ h.place) (grantees (k + step) step ps) g (grantees_from (k + step) step ps) a)))
+grantees_from k step (p ∷ ps) = (
+  omega arith,
+  all_of (λ g. k ≤ g.place) (grantees (k + step) step ps)
+      (λ g a. omega (arith, all_among (λ h. k + step ≤ h.place) (grantees (k + step) step ps) g (grantees_from (k + step) step ps) a)),
+)
 
 -- of grantees with different symbols one alone has a symbol
 alone : (gs : List Grantee) → EachTwo (λ g h. g.symbol ≢ h.symbol) gs → (x y : Grantee) → Among x gs → Among y gs → x.symbol ≡ y.symbol → x ≡ y
@@ -126,11 +129,14 @@ regrant_next form xs gs i x a place t u h e s p free small other set w =
     }
   where
     later : {b : ℕ} → b ≢ a → Held t w.done b → Held u (w.done ++ record { symbol = a; place = first_place form + step_of form * i } ∷ []) b
-    later {b} differ (inl (z, none)) = inl (other b differ ∙ z, λ y c same. elim (among_append y w.done (record { symbol = a; place = first_place form + step_of form * i } ∷ []) c) [
-      | inl d ↦ none y d same
-      | inr (inl q) ↦ differ (sym same ∙ ap (λ v. v.symbol) q)
-      | inr (inr q) ↦ absurd q
-    ])
+    later {b} differ (inl (z, none)) = inl (
+      other b differ ∙ z,
+      λ y c same. elim (among_append y w.done (record { symbol = a; place = first_place form + step_of form * i } ∷ []) c) [
+        | inl d ↦ none y d same
+        | inr (inl q) ↦ differ (sym same ∙ ap (λ v. v.symbol) q)
+        | inr (inr q) ↦ absurd q
+      ],
+    )
     later {b} differ (inr (y, c, same, at)) = inr (y, among_left y w.done (record { symbol = a; place = first_place form + step_of form * i } ∷ []) c, same, other b differ ∙ at)
 
 pub regrant_found : (form : Form) (xs : List TSeq) (gs : List Grantee) (i : ℕ) (x : TSeq) (a place first : ℕ) (t : Table) → i < length xs → x ≡ get_or xs i x
@@ -167,13 +173,19 @@ regrant_end form xs gs i t h w =
 -- ---- a process
 plain_stand : (ps : List ℕ) → AllByRecursion (λ a. Stands a (marks_among (seqs_of (map plain_alternative ps)))) ps
 plain_stand [] = tt
-plain_stand (p ∷ ps) = (inl refl, all_of (λ a. Stands a (output p ∷ marks_among (seqs_of (map plain_alternative ps)))) ps
-  (λ a h. inr (all_among (λ b. Stands b (marks_among (seqs_of (map plain_alternative ps)))) ps a (plain_stand ps) h)))
+plain_stand (p ∷ ps) = (
+  inl refl,
+  all_of (λ a. Stands a (output p ∷ marks_among (seqs_of (map plain_alternative ps)))) ps
+      (λ a h. inr (all_among (λ b. Stands b (marks_among (seqs_of (map plain_alternative ps)))) ps a (plain_stand ps) h)),
+)
 
 release_stand : (pds : List (ℕ × ℕ)) → AllByRecursion (λ a. Stands a (marks_among (seqs_of (map release_alternative pds)))) (map (λ pd. pd.0) pds)
 release_stand [] = tt
-release_stand (pd ∷ pds) = (inl refl, all_of (λ a. Stands a (output pd.0 ∷ input pd.1 ∷ marks_among (seqs_of (map release_alternative pds)))) (map (λ x. x.0) pds)
-  (λ a h. inr (inr (all_among (λ b. Stands b (marks_among (seqs_of (map release_alternative pds)))) (map (λ x. x.0) pds) a (release_stand pds) h))))
+release_stand (pd ∷ pds) = (
+  inl refl,
+  all_of (λ a. Stands a (output pd.0 ∷ input pd.1 ∷ marks_among (seqs_of (map release_alternative pds)))) (map (λ x. x.0) pds)
+      (λ a h. inr (inr (all_among (λ b. Stands b (marks_among (seqs_of (map release_alternative pds)))) (map (λ x. x.0) pds) a (release_stand pds) h))),
+)
 
 grantees_all : (P : ℕ → Type 0) (k step : ℕ) (ps : List ℕ) → AllByRecursion P ps → AllByRecursion (λ g. P g.symbol) (grantees k step ps)
 grantees_all P k step [] h = tt

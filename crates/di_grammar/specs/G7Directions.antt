@@ -9,15 +9,19 @@ use Rattle.di_grammar.specs.Spots.{Spot, spots, First}
 abbrev pub KeepsDirections : List Proc → Type 0
 KeepsDirections ps = EachTwo (λ m n. m.sym.0 ≡ n.sym.0 → m.dir ≡ n.dir) (marks_of_all ps)
 
--- told is a mark, against the first mark of its symbol
-pub record BreaksDirections (ps : List Proc) (b : Broken) : Type 0 where
+-- of these marks one is turned against the first of its symbol
+pub record TurnsAmong (ss : List Spot) (b : Broken) : Type 0 where
   pub spot : Spot
   pub first : Spot
-  pub of : Among spot (spots ps)
-  pub of_first : First first (spots ps)
+  pub of : Among spot ss
+  pub of_first : First first ss
   pub same : spot.mark.sym.0 ≡ first.mark.sym.0
   pub turned : spot.mark.dir ≢ first.mark.dir
   pub at : b.process ≡ spot.process
   pub place : b.place ≡ spot.place
   pub at_other : b.other_process ≡ first.process
   pub other : b.other ≡ first.place
+
+-- told is a mark, against the first mark of its symbol in the command
+abbrev pub BreaksDirections : List Proc → Broken → Type 0
+BreaksDirections ps b = TurnsAmong (spots ps) b

@@ -8,3 +8,5 @@ pub mod Tables
 pub mod Symbols
 pub mod EvenBursts
 pub mod Regrants
+pub mod Firsts
+pub mod Turnings

@@ -28,7 +28,7 @@ pub fn broken_bursts(procs: &[Proc]) -> Option<Broken>
     seeker.search.found
 }
 
-fn differ(first: Dir, second: Dir) -> bool
+pub fn differ(first: Dir, second: Dir) -> bool
     ensures { result ≡ not (same_dir first second) }
 {
     match (first, second) {

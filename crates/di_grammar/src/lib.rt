@@ -2,10 +2,12 @@
 #![tactic(auto)]
 
 mod broken;
+mod firsts;
 mod g1_bursts;
 mod g2_neighbours;
 mod g3_rounds;
 mod g4_choices;
+mod g7_directions;
 mod g8_granted;
 mod grant;
 mod search;

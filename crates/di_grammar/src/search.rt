@@ -94,7 +94,7 @@ fn broken_at(rule: u8, number: u32, pair: Option<Pair>) -> Option<Broken>
     }
 }
 
-fn earliest(first: Option<Broken>, second: Option<Broken>) -> Option<Broken>
+pub fn earliest(first: Option<Broken>, second: Option<Broken>) -> Option<Broken>
     ensures { result ≡ earliest first second }
 {
     match first {
