@@ -8,3 +8,4 @@ mod TableSteps
 mod EvenSteps
 mod RegrantSteps
 mod TurnSteps
+mod OverlapSteps

@@ -102,15 +102,20 @@ turns_less ss ts b t a = record {
 earlier_told : (ss : List Spot) (x : Spot) (f : Broken) → ((s : Spot) → Among s ss → Earlier s x) → Told (λ b. (b.rule ≡ 7) × TurnsAmong ss b) (Some f)
     → Told (λ b. (b.rule ≡ 7) × TurnsAmong (ss ++ x ∷ []) b) (Some f)
 earlier_told ss x f before t =
-    let (rule, breaks) = t.0 in
-    ((rule, turns_more ss (x ∷ []) f breaks), λ b. λ (r, c). elim (among_append c.spot ss (x ∷ []) c.of) [
-      | inl a ↦ t.1 b (r, turns_less ss (x ∷ []) b c a)
-      | inr (inl is) ↦ inr (rule ∙ sym r, elim (before breaks.spot breaks.of) [
-        | inl less ↦ inl (omega (arith, less, breaks.at, c.at, ap (λ z. z.process) is))
-        | inr (e, less) ↦ inr (omega (arith, e, breaks.at, c.at, ap (λ z. z.process) is), inl (omega (arith, less, breaks.place, c.place, ap (λ z. z.place) is)))
-      ])
-      | inr (inr none) ↦ absurd none
-    ])
+    let (rule, breaks) = t.0 in (
+      (rule, turns_more ss (x ∷ []) f breaks),
+      λ b. λ (r, c). elim (among_append c.spot ss (x ∷ []) c.of) [
+        | inl a ↦ t.1 b (r, turns_less ss (x ∷ []) b c a)
+        | inr (inl is) ↦ inr (
+          rule ∙ sym r,
+          elim (before breaks.spot breaks.of) [
+            | inl less ↦ inl (omega (arith, less, breaks.at, c.at, ap (λ z. z.process) is))
+            | inr (e, less) ↦ inr (omega (arith, e, breaks.at, c.at, ap (λ z. z.process) is), inl (omega (arith, less, breaks.place, c.place, ap (λ z. z.place) is)))
+          ],
+        )
+        | inr (inr none) ↦ absurd none
+      ],
+    )
 
 none_told : (ss : List Spot) (x : Spot) → Told (λ b. (b.rule ≡ 7) × TurnsAmong ss b) None → ((b : Broken) (c : TurnsAmong (ss ++ x ∷ []) b) → c.spot ≡ x → ⊥)
     → Told (λ b. (b.rule ≡ 7) × TurnsAmong (ss ++ x ∷ []) b) None
@@ -133,22 +138,33 @@ old_told : (ss : List Spot) (x : Spot) (f : Seen) → IsFirst f ss x.mark.sym.0 
 old_told ss x f w t = elim (dir_same x.mark.dir f.dir) [
   | inl (e, same) ↦ rw e (none_told ss x t (λ b c is. c.turned (ap (λ z. z.mark.dir) is ∙ same ∙ w.dir ∙ ap (λ z. z.mark.dir) (sym (own b c is)))))
   | inr (e, differ) ↦ rw e (
-    (refl, record {
-      spot = x;
-      first = w.spot;
-      of = among_right x ss (x ∷ []) (inl refl);
-      of_first = first_append w.spot ss (x ∷ []) w.first;
-      same = sym w.symbol;
-      turned = λ h. differ (h ∙ sym w.dir);
-      at = refl;
-      place = refl;
-      at_other = w.process;
-      other = w.place;
-    }),
+    (
+      refl,
+      record {
+        spot = x;
+        first = w.spot;
+        of = among_right x ss (x ∷ []) (inl refl);
+        of_first = first_append w.spot ss (x ∷ []) w.first;
+        same = sym w.symbol;
+        turned = λ h. differ (h ∙ sym w.dir);
+        at = refl;
+        place = refl;
+        at_other = w.process;
+        other = w.place;
+      },
+    ),
     λ b. λ (r, c). elim (among_append c.spot ss (x ∷ []) c.of) [
       | inl a ↦ absurd (t b (r, turns_less ss (x ∷ []) b c a))
-      | inr (inl is) ↦ inr (sym r, inr (ap (λ z. z.process) (sym is) ∙ sym c.at, inr (ap (λ z. z.place) (sym is) ∙ sym c.place,
-        inr (w.process ∙ ap (λ z. z.process) (sym (own b c is)) ∙ sym c.at_other, omega (arith, w.place, c.other, ap (λ z. z.place) (own b c is))))))
+      | inr (inl is) ↦ inr (
+        sym r,
+        inr (
+          ap (λ z. z.process) (sym is) ∙ sym c.at,
+          inr (
+            ap (λ z. z.place) (sym is) ∙ sym c.place,
+            inr (w.process ∙ ap (λ z. z.process) (sym (own b c is)) ∙ sym c.at_other, omega (arith, w.place, c.other, ap (λ z. z.place) (own b c is))),
+          ),
+        ),
+      )
       | inr (inr none) ↦ absurd none
     ],
   )
@@ -156,7 +172,7 @@ old_told ss x f w t = elim (dir_same x.mark.dir f.dir) [
   where
     own : (b : Broken) (c : TurnsAmong (ss ++ x ∷ []) b) → c.spot ≡ x → c.first ≡ w.spot
     own b c is = first_one c.first w.spot (ss ++ x ∷ []) c.of_first (first_append w.spot ss (x ∷ []) w.first)
-      (sym c.same ∙ ap (λ z. z.mark.sym.0) is ∙ sym w.symbol)
+        (sym c.same ∙ ap (λ z. z.mark.sym.0) is ∙ sym w.symbol)
 
 mark_told : (ss : List Spot) (x : Spot) (t : Firsts) (found : Option Broken) → ((s : Spot) → Among s ss → Earlier s x) → Turning t found ss
     → Told (λ b. (b.rule ≡ 7) × TurnsAmong (ss ++ x ∷ []) b) (earliest found (turned_at x.process x.place x.mark (first_at t x.mark.sym.0)))

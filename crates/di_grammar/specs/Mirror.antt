@@ -10,3 +10,4 @@ pub mod EvenBursts
 pub mod Regrants
 pub mod Firsts
 pub mod Turnings
+pub mod Overlapping

@@ -7,6 +7,7 @@ mod g1_bursts;
 mod g2_neighbours;
 mod g3_rounds;
 mod g4_choices;
+mod g6_overlaps;
 mod g7_directions;
 mod g8_granted;
 mod grant;
