@@ -1,7 +1,10 @@
 //! Laws of the definitions in `specs/`. Each function is empty: its clauses are what it is for.
-ghost use Rattle.std.specs.Prelude.{◌≡◌, ◌↔◌, ℕ, ◌<◌, List};
-ghost use Rattle.cmd_tree.specs.Rounds.{Rounds};
+ghost use Rattle.std.specs.Prelude.{◌≡◌, ◌↔◌, ℕ, ◌<◌, List, [], ◌∷◌, ◌++◌};
+ghost use Rattle.cmd_tree.specs.Rounds.{counts, Rounds};
+ghost use Rattle.basic_kinds.specs.declared.kind.Kind.{Kind};
+ghost use Rattle.basic_kinds.specs.Kinds.{IsWide};
 ghost use Rattle.basic_kinds.specs.KindTraces.{KindTrace};
+ghost use Rattle.basic_kinds.specs.KindCounts.{KindAt, KindFollows};
 
 use crate::kind::Kind;
 
@@ -13,46 +16,11 @@ pub fn rounds_law()
     ensures join { (n : ℕ) (t : List ℕ) → 0 < n → (KindTrace (Kind.C n) t ↔ Rounds n 1 t) }
 {}
 
-#[cfg(test)]
-mod tests {
-    use crate::{Kind, Shape, ports};
-    use sqlite_items::Items;
-    use std::test::Fail;
-
-    // The law has nothing to run: this says that it may be called.
-    #[test]
-    fn laws_are_callable() {
-        super::rounds_law();
-    }
-
-    #[test]
-    fn ports_of_kinds(rt: HostRuntime) -> Result<(), Fail> {
-        let rows = [
-            (Kind::Wire, (1, 1)),
-            (Kind::Iwire, (1, 1)),
-            (Kind::Source, (0, 1)),
-            (Kind::Sink, (1, 0)),
-            (Kind::Fork(3), (1, 3)),
-            (Kind::C(2), (2, 1)),
-            (Kind::Merge(5), (5, 1)),
-            (Kind::Toggle, (1, 2)),
-            (Kind::Seq(2), (3, 2)),
-        ];
-        for (kind, numbers) in &rows {
-            assert_eq!(rt; ports(kind), *numbers);
-        }
-        Ok(())
-    }
-
-    #[test]
-    fn ports_of_a_decision_wait(rt: HostRuntime) -> Result<(), Fail> {
-        let cross = Items::from_vec(vec![in rt.alloc(); (0, 0), (1, 0), (2, 0)]?);
-        let shape = Shape {
-            rows: 3,
-            cols: 1,
-            cross,
-        };
-        assert_eq!(rt; ports(&Kind::Dw(shape)), (4, 3));
-        Ok(())
-    }
-}
+/// Of each kind, of any width or shape, the counts decide: a trace is one of the kind exactly where each port
+/// of it may come by how often each port has come before it. So the empty trace is one, and a trace with one
+/// more port is one exactly where the trace is and the port may come.
+pub fn kinds_by_counts()
+    ensures counts { (kind : Kind) (t : List ℕ) → IsWide kind → (KindTrace kind t ↔ KindFollows kind t) }
+    ensures empty { (kind : Kind) → IsWide kind → KindTrace kind [] }
+    ensures push { (kind : Kind) (t : List ℕ) (p : ℕ) → IsWide kind → (KindTrace kind (t ++ p ∷ []) ↔ (KindTrace kind t × KindAt kind (counts t) p)) }
+{}

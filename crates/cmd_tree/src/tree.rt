@@ -1,3 +1,4 @@
+//! The trees of commands: marks, items, sequences, processes.
 use sqlite_items::Items;
 use std::marker::Model;
 

@@ -5,17 +5,10 @@ pub mod Tallying
 pub mod Drafts
 pub mod FirstMarks
 pub mod Updates
-pub mod Webs
-pub mod Told
-pub mod Woven
-pub mod Totals
-pub mod Named
-pub mod Relabel
-pub mod Rounds
-pub mod RoundsNets
 pub mod Meets
 pub mod Renumbered
 pub mod Moved
+pub mod Components
 pub mod Reordered
 pub mod InPlace
 pub mod Sizes
@@ -29,3 +22,4 @@ pub mod Listings
 pub mod WalkSteps
 pub mod WalkStates
 pub mod FirstWires
+pub mod WalkAgain
