@@ -327,3 +327,24 @@ whole_process K p k =
     let Q : List Neighbours → Type 0 = λ x. K (bursts p) x LC in
     let R : List (List Alternative) → Type 0 = λ x. K (bursts p) (neighbours p) x in
     subst R (choices_parts p) (subst Q (neighbours_parts p) (subst P (bursts_parts p) k))
+
+-- ---- in the middle of the first bursts of a choice
+pub record Started (K : List Burst → Type 0) (place : ℕ) (rest : TSeqs) (bs : List Burst) : Type 0 where
+  seen : List Burst
+  knows : K seen
+  seen_all : seen ++ firsts_among place rest ≡ bs
+
+pub started_first : (K : List Burst → Type 0) (place : ℕ) (rest : TSeqs) (bs : List Burst) → K bs → Started K place rest (bs ++ firsts_among place rest)
+started_first K place rest bs k = record { seen = bs; knows = k; seen_all = refl }
+
+pub started_next : (K L : List Burst → Type 0) (place next : ℕ) (tail rest : TSeqs) (s : TSeq) (bs : List Burst) → tail ≡ Or s rest → Started K place tail bs
+    → ((b : List Burst) → K b → L (b ++ firsts_of place s)) → next ≡ place + places_of s → Started L next rest bs
+started_next K L place next tail rest s bs t w f x = record {
+  seen = w.seen ++ firsts_of place s;
+  knows = f w.seen w.knows;
+  seen_all = ap (λ n. (w.seen ++ firsts_of place s) ++ firsts_among n rest) x ∙ append_assoc w.seen (firsts_of place s) (firsts_among (place + places_of s) rest)
+      ∙ ap (λ l. w.seen ++ firsts_among place l) (sym t) ∙ w.seen_all;
+}
+
+pub started_done : (K : List Burst → Type 0) (place : ℕ) (tail : TSeqs) (bs : List Burst) → tail ≡ Stop → Started K place tail bs → K bs
+started_done K place tail bs t w = subst K (sym (append-nil w.seen) ∙ ap (λ l. w.seen ++ firsts_among place l) (sym t) ∙ w.seen_all) w.knows

@@ -6,6 +6,7 @@
 
 mod command;
 mod copy;
+mod firsts;
 mod laws;
 mod limits;
 mod marks;
@@ -17,6 +18,7 @@ mod visit;
 
 pub use command::Command;
 pub use copy::copy_command;
+pub use firsts::{VisitFirsts, walk_firsts};
 pub use laws::{rounds_by_counts, traces_are_closed, traces_are_steps};
 pub use limits::{
     MAX_BIG, MAX_COMPONENTS, MAX_DRIVEN_STEPS, MAX_FILE_BYTES, MAX_NAME_BYTES, MAX_NETLIST_BYTES,

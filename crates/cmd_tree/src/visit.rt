@@ -4,7 +4,7 @@ ghost use Rattle.cmd_tree.specs.declared.tree.Proc.{Proc};
 ghost use Rattle.cmd_tree.specs.Tree.{places_of, places_in, places_among};
 ghost use Rattle.cmd_tree.specs.View.{item_of, seqs_of};
 ghost use Rattle.cmd_tree.specs.Limits.{of_part, places_of_proc, places_of_all};
-ghost use Rattle.cmd_tree.specs.Bursts.{Burst, Neighbours, Alternative, dir_of, alternatives, all_begins, all_ends, bursts, neighbours, choices, turn};
+ghost use Rattle.cmd_tree.specs.Bursts.{Burst, Neighbours, Alternative, dir_of, alternatives, bursts, neighbours, choices, turn};
 ghost use Rattle.cmd_tree.specs.Bursts.{bursts_of, bursts_in, bursts_among, firsts_of, firsts_in, firsts_among, lasts_of, lasts_in, lasts_among};
 ghost use Rattle.cmd_tree.specs.Bursts.{neighbours_of, neighbours_in, neighbours_among, choices_of, choices_in, choices_among};
 ghost use Rattle.cmd_tree.specs.Walks.{first_of_each, met};
@@ -44,11 +44,12 @@ pub trait Visit {
         ensures { (ps : List Proc) (bs : List Burst) (ns : List Neighbours) (cs : List (List Alternative)) (n : Neighbours)
             → met n ≡ meeting → Knows self.old ps bs ns cs → Knows self.new ps bs (ns ++ n ∷ []) cs };
 
-    /// A choice, by the first bursts and the last bursts of all its alternatives.
-    fn choice(&mut self, begins: Ends, ends: Ends)
-        ensures { (ps : List Proc) (bs : List Burst) (ns : List Neighbours) (cs : List (List Alternative)) (c : List Alternative)
-            → first_of_each (all_begins c) ≡ begins → first_of_each (all_ends c) ≡ ends
-            → Knows self.old ps bs ns cs → Knows self.new ps bs ns (cs ++ c ∷ []) };
+    /// A choice, whose first alternative begins at this place, with the first bursts and the last bursts of all alternatives.
+    fn choice(&mut self, first: u32, seqs: &[Seq], begins: Ends, ends: Ends)
+        requires { first + places_among (seqs_of seqs.now) < 2 ^ 32 }
+        ensures { (ps : List Proc) (bs : List Burst) (ns : List Neighbours) (cs : List (List Alternative))
+            → first_of_each (firsts_among first (seqs_of seqs.now)) ≡ begins → first_of_each (lasts_among first (seqs_of seqs.now)) ≡ ends
+            → Knows self.old ps bs ns cs → Knows self.new ps bs ns (cs ++ alternatives first (seqs_of seqs.now) ∷ []) };
 
     /// The end of the process with this number, all of whose bursts, neighbours and choices were seen.
     fn end(&mut self, number: u32, process: &Proc, round: Meeting)
@@ -161,7 +162,7 @@ fn walk_item<V: Visit>(number: u32, item: &Item, first: u32, before: Ends, visit
             for seq in seqs.as_slice() {
                 walked = walked.and(walk_seq(number, seq, walked.next, Ends::none(), visit));
             }
-            visit.choice(walked.begins, walked.ends);
+            visit.choice(first, seqs.as_slice(), walked.begins, walked.ends);
             walked
         }
     };

@@ -56,12 +56,14 @@ walk_item-returns-clause-knows g t c = elim c.match-item.branch [
       let N = g.V.Visit.Knows w.choice.new.self ps in
       let B : List Burst = bs ++ bursts_among x S in
       let all : List Neighbours = ns ++ neighbours_among x S in
+      let same : w.as_slice-in-Alt.result.now ≡ xs = w.as_slice-in-Alt.ensures ∙ sym w.as_slice-seq-items.ensures in
+      let chooses = rw same at w.choice.ensures in
       let ended : seqs_of (drop w.loop-seq.seq-index xs) ≡ Stop = ap seqs_of (drop_all w.loop-seq.seq-index xs (omega (arith, w.loop-seq-test.false))) in
       let done : M B all (cs ++ choices_among x S) = choosing_done M _ _ _ _ _ ended (i.going ps bs ns cs m k) in
       let starts : first_of_each (firsts_among x S) ≡ w.loop-seq.walked.begins = among_done _ _ _ _ ended i.begins in
       let stops : first_of_each (lasts_among x S) ≡ w.loop-seq.walked.ends = among_ended _ _ _ _ ended i.ends in
       let chosen : N B all ((cs ++ choices_among x S) ++ alternatives x S ∷ []) =
-      w.choice.ensures ps B all (cs ++ choices_among x S) (alternatives x S) (ap first_of_each (begins_all x S) ∙ starts) (ap first_of_each (ends_all x S) ∙ stops) done in
+      chooses ps B all (cs ++ choices_among x S) starts stops done in
       let known : K B all (cs ++ (choices_among x S ++ alternatives x S ∷ [])) = rw w.visit-is (chosen_last N B all cs (choices_among x S) (alternatives x S) chosen) in
       let begins : first_of_each (firsts_among x S) ≡ c.match-item.walked.begins = rw w.walked-is starts in
       met_last L B ns (neighbours_among x S) (record { ends = earlier; begins = firsts_among x S }) _
