@@ -7,6 +7,7 @@ pub mod FormShapes
 pub mod Lines
 pub mod Compiling
 pub mod Endings
+pub mod FormAnswers
 pub mod Sourcing
 pub mod Stops
 pub mod CommandPorts
