@@ -6,7 +6,8 @@ use Rattle.cmd_tree.specs.Tree.{TItem, TSeq, TSeqs, TBurst, TAlt, Stop, Or, Done
 use Rattle.cmd_tree.specs.Limits.{IsSeq, IsItem, AreSeqs, IsFull, count_of}
 use Rattle.cmd_tree.specs.Meaning.{Cut, symbols, Whole, WholeItem, WholeOne}
 use Rattle.cmd_tree.specs.Join.{join}
-use Rattle.cmd_tree.specs.Residual.{has, without, FirstOf, FirstIn, FirstAmong}
+use Rattle.cmd_tree.specs.Lists.{is_in}
+use Rattle.cmd_tree.specs.Residual.{without, FirstOf, FirstIn, FirstAmong}
 use Rattle.cmd_tree.proofs.Bursts.{take_perm, perm_nil}
 
 -- ---- one sequence after another
@@ -83,7 +84,7 @@ pub record Begins (F : List Mark → TSeq → Type 0) (a : ℕ) (w : List ℕ) :
   pub marks : List Mark
   pub rest : TSeq
   pub is_first : F marks rest
-  pub there : IsTrue (has a (symbols marks))
+  pub there : IsTrue (is_in a (symbols marks))
   pub left : Cut (IsPermutation (without a (symbols marks))) (Whole rest) w
 
 begins_then : (i : TItem) (s : TSeq) (a : ℕ) (w f b : List ℕ) → a ∷ w ≡ f ++ b → WholeItem i f → Whole s b → (WholeItem i [] → ⊥) → ((v : List ℕ) → WholeItem i (a ∷ v) → Begins (FirstIn i) a v) → Begins (FirstOf (Then i s)) a w

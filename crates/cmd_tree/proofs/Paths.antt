@@ -6,7 +6,8 @@ use Rattle.cmd_tree.specs.declared.tree.Proc.{Proc}
 use Rattle.cmd_tree.specs.Tree.{TSeq, Done, Then}
 use Rattle.cmd_tree.specs.Limits.{IsSeq, IsFull, IsPart, IsProc}
 use Rattle.cmd_tree.specs.Meaning.{Cut, Star, stop, turn, symbols, Whole, WholeLead, Turns, TraceOf}
-use Rattle.cmd_tree.specs.Residual.{has, without, FirstOf, FirstOfBody, Left, Next, Step, within, opens, Runs, lead_of, start}
+use Rattle.cmd_tree.specs.Lists.{is_in}
+use Rattle.cmd_tree.specs.Residual.{without, FirstOf, FirstOfBody, Left, Next, Step, within, opens, Runs, lead_of, start}
 use Rattle.cmd_tree.proofs.Bursts.{take_perm, put_perm, perm_nil, nil_perm}
 use Rattle.cmd_tree.proofs.Cuts.{full_seq, nonempty_full, some_whole, begins_seq, whole_of, left_of}
 
@@ -21,7 +22,7 @@ record Opening (F : List Mark → TSeq → Type 0) (body : Option TSeq) (a : ℕ
   pub marks : List Mark
   pub then_left : TSeq
   pub is_first : F marks then_left
-  pub there : IsTrue (has a (symbols marks))
+  pub there : IsTrue (is_in a (symbols marks))
   pub left : Cut (IsPermutation (without a (symbols marks))) (Cut (Whole then_left) (Turns body)) w
 
 opening : (body : Option TSeq) (s : TSeq) → IsFull s → (a : ℕ) (w f b : List ℕ) → a ∷ w ≡ f ++ b → Whole s f → Turns body b → Opening (FirstOf s) body a w

@@ -5,9 +5,11 @@ use Rattle.std.proofs.lemmas.List.Folds.{list_any-append}
 use Rattle.cmd_tree.specs.declared.tree.Mark.{Mark}
 use Rattle.cmd_tree.specs.Limits.{IsProc, marks_of_proc, marks_of_all}
 use Rattle.cmd_tree.specs.Meaning.{symbols, TraceOf, Trace, has_symbol}
-use Rattle.cmd_tree.specs.Residual.{has, start}
+use Rattle.cmd_tree.specs.Lists.{is_in}
+use Rattle.cmd_tree.specs.Residual.{start}
 use Rattle.cmd_tree.specs.Rounds.{counts, Follows}
-use Rattle.cmd_tree.specs.RoundsProc.{input, output, rounds_of, MayCome}
+use Rattle.cmd_tree.specs.RoundsProc.{rounds_of, MayCome}
+use Rattle.cmd_tree.specs.Marks.{input, output}
 use Rattle.cmd_tree.proofs.Paths.{trace_runs}
 use Rattle.cmd_tree.proofs.Phases.{Once}
 use Rattle.cmd_tree.proofs.RoundsSteps.{symbols_input, symbols_output, Stands, follows_from_runs, runs_from_follows}
@@ -22,8 +24,8 @@ symbols_rounds : (ins outs : List ℕ) → symbols (marks_of_proc (rounds_of ins
 symbols_rounds ins outs = symbols_append (map input ins) (map output outs ++ []) ∙ ap (λ t. t ++ symbols (map output outs ++ [])) (symbols_input ins) ∙ ap (λ t. ins ++ symbols t) (append-nil (map output outs)) ∙ ap (λ t. ins ++ t) (symbols_output outs)
 
 -- the symbol is of the process exactly where it is an input or an output
-is_known : (ins outs : List ℕ) (x : ℕ) → has_symbol (marks_of_proc (rounds_of ins outs)) x ≡ (has x ins || has x outs)
-is_known ins outs x = ap (λ t. has x t) (symbols_rounds ins outs) ∙ list_any-append (nat_eq x) ins outs
+is_known : (ins outs : List ℕ) (x : ℕ) → has_symbol (marks_of_proc (rounds_of ins outs)) x ≡ (is_in x ins || is_in x outs)
+is_known ins outs x = ap (λ t. is_in x t) (symbols_rounds ins outs) ∙ list_any-append (nat_eq x) ins outs
 
 is_known_all : (ins outs : List ℕ) (x : ℕ) → has_symbol (marks_of_all (rounds_of ins outs ∷ [])) x ≡ has_symbol (marks_of_proc (rounds_of ins outs)) x
 is_known_all ins outs x = ap (λ ms. has_symbol ms x) (append-nil (marks_of_proc (rounds_of ins outs)))
@@ -41,11 +43,11 @@ or_true : (b : Bool) → IsTrue (b || true)
 or_true true = refl
 or_true false = refl
 
-may_come_known : (ins outs : List ℕ) (c : ℕ → ℕ) (x : ℕ) → MayCome ins outs c x → IsTrue (has x ins || has x outs)
-may_come_known ins outs c x (inl h) = ap (λ b. b || has x outs) h.0
-may_come_known ins outs c x (inr h) = ap (λ b. has x ins || b) h.0 ∙ or_true (has x ins)
+may_come_known : (ins outs : List ℕ) (c : ℕ → ℕ) (x : ℕ) → MayCome ins outs c x → IsTrue (is_in x ins || is_in x outs)
+may_come_known ins outs c x (inl h) = ap (λ b. b || is_in x outs) h.0
+may_come_known ins outs c x (inr h) = ap (λ b. is_in x ins || b) h.0 ∙ or_true (is_in x ins)
 
-follows_known : (ins outs : List ℕ) (t u : List ℕ) → Follows (λ v a. MayCome ins outs (counts v) a) u t → AllByRecursion (λ x. IsTrue (has x ins || has x outs)) t
+follows_known : (ins outs : List ℕ) (t u : List ℕ) → Follows (λ v a. MayCome ins outs (counts v) a) u t → AllByRecursion (λ x. IsTrue (is_in x ins || is_in x outs)) t
 follows_known ins outs [] u f = tt
 follows_known ins outs (a ∷ t) u f = (may_come_known ins outs (counts u) a f.0, follows_known ins outs t (u ++ a ∷ []) f.1)
 
@@ -78,7 +80,7 @@ module _ (ins outs : List ℕ) (once : Once ins outs) (some_in : 0 < length ins)
 
       back : Follows (λ u a. MayCome ins outs (counts u) a) [] t → Trace (rounds_of ins outs ∷ []) t
       back f =
-          let known = all_map (λ x. IsTrue (has x ins || has x outs)) (λ x. IsTrue (has_symbol (marks_of_proc (rounds_of ins outs)) x)) (λ x h. is_known ins outs x ∙ h) t (follows_known ins outs t [] f) in
+          let known = all_map (λ x. IsTrue (is_in x ins || is_in x outs)) (λ x. IsTrue (has_symbol (marks_of_proc (rounds_of ins outs)) x)) (λ x h. is_known ins outs x ∙ h) t (follows_known ins outs t [] f) in
           record {
             known = all_map (λ x. IsTrue (has_symbol (marks_of_proc (rounds_of ins outs)) x)) (λ x. IsTrue (has_symbol (marks_of_all (rounds_of ins outs ∷ [])) x)) (λ x h. is_known_all ins outs x ∙ h) t known;
             each = (subst (λ u. TraceOf (rounds_of ins outs) u) (sym (filter_all (has_symbol (marks_of_proc (rounds_of ins outs))) t known)) ((TraceOf-rounds t).1 f), tt);

@@ -1,11 +1,11 @@
 pub mod Tree
-pub mod Size
-pub mod Stored
 pub mod View
+pub mod Marks
+pub mod Lists
 pub mod Join
-pub mod Falls
 pub mod Limits
 pub mod Meaning
 pub mod Residual
 pub mod Rounds
 pub mod RoundsProc
+pub mod Mirror

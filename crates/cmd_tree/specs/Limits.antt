@@ -6,6 +6,7 @@ use native.Mathlib.Nat.{ℕ_set}
 use denote.Struct.Props.{props}
 use Rattle.std.proofs.Math.Dec.{T_prop}
 use Rattle.std.specs.Str.{bytes_eq}
+use Rattle.cmd_tree.specs.declared.limits.TheConstants.{MAX_NAME_BYTES, MAX_OPEN_BRACKETS, MAX_SYMBOLS, MAX_PROCESSES, MAX_PLACES}
 use Rattle.cmd_tree.specs.declared.tree.Mark.{Mark}
 use Rattle.cmd_tree.specs.declared.tree.Proc.{Proc}
 use Rattle.cmd_tree.specs.Tree.{TItem, TSeq, TSeqs, TBurst, TAlt, Stop, Or, Done, Then, places_of, depth_of, marks_of}
@@ -114,13 +115,13 @@ begins_with_letter (b ∷ bs) = is_letter b && list_all is_tail bs
 abbrev pub is_word : List ℕ → Bool
 is_word n = bytes_eq n (codes "let") || bytes_eq n (codes "main") || bytes_eq n (codes "pref")
 
--- the form of a name: a letter, then letters, digits and `_`, at most 32 bytes in all, and none of the three words
+-- the form of a name: a letter, then letters, digits and `_`, of few bytes in all, and none of the three words
 abbrev pub is_name : List ℕ → Bool
-is_name n = nat_le (length n) 32 && begins_with_letter n && not (is_word n)
+is_name n = nat_le (length n) MAX_NAME_BYTES && begins_with_letter n && not (is_word n)
 
 -- What a command keeps. Its processes have the shape of processes, each with a body; its names are those of its symbols,
--- which are numbered by first occurrence; and at most 64 brackets are open at once, in at most 256 processes with
--- 1,024 symbols at 8,192 places.
+-- which are numbered by first occurrence; and few brackets are open at once, in few processes with few symbols at
+-- few places.
 pub record IsCommand (names : List (List ℕ)) (procs : List Proc) : Type 0 where
   pub some : 0 < length procs
   pub shaped : AllByRecursion IsProc procs
@@ -128,10 +129,10 @@ pub record IsCommand (names : List (List ℕ)) (procs : List Proc) : Type 0 wher
   pub numbered : IsNumbered 0 (marks_of_all procs) (length names)
   pub distinct : IsDistinct bytes_eq names
   pub formed : AllByRecursion (λ n. IsTrue (is_name n)) names
-  pub few_brackets : AllByRecursion (λ p. brackets_of_proc p ≤ 64) procs
-  pub few_symbols : length names ≤ 1024
-  pub few_procs : length procs ≤ 256
-  pub few_places : places_of_all procs ≤ 8192
+  pub few_brackets : AllByRecursion (λ p. brackets_of_proc p ≤ MAX_OPEN_BRACKETS) procs
+  pub few_symbols : length names ≤ MAX_SYMBOLS
+  pub few_procs : length procs ≤ MAX_PROCESSES
+  pub few_places : places_of_all procs ≤ MAX_PLACES
 
 -- each of these facts has one proof at most
 mutual

@@ -1,17 +1,10 @@
 -- The process of rounds: it takes all of its inputs in any order, and then gives all of its outputs in any order.
 use Rattle.std.specs.Prelude.{◌≡◌, ◌⊎◌, ℕ, ◌<◌, IsTrue, List, map, None, Some}
 use Rattle.std.specs.List.{range_with_len}
-use Rattle.cmd_tree.specs.declared.tree.Dir.TheVariants.{Input, Output}
-use Rattle.cmd_tree.specs.declared.tree.Mark.{Mark}
 use Rattle.cmd_tree.specs.declared.tree.Proc.{Proc}
 use Rattle.cmd_tree.specs.Tree.{TBurst, Done, Then}
-use Rattle.cmd_tree.specs.Residual.{has}
-
-abbrev pub input : ℕ → Mark
-input k = record { sym = record { 0 = k }; dir = Input }
-
-abbrev pub output : ℕ → Mark
-output k = record { sym = record { 0 = k }; dir = Output }
+use Rattle.cmd_tree.specs.Marks.{input, output}
+use Rattle.cmd_tree.specs.Lists.{is_in}
 
 -- all of the inputs and then all of the outputs, again and again
 abbrev pub rounds_of : List ℕ → List ℕ → Proc
@@ -23,4 +16,4 @@ rounds n m = rounds_of (range_with_len 0 n) (range_with_len n m)
 
 -- An input may come where it has come as often as each output, and an output where it has come less often than each input.
 abbrev pub MayCome : List ℕ → List ℕ → (ℕ → ℕ) → ℕ → Type 0
-MayCome ins outs c a = (IsTrue (has a ins) × ((o : ℕ) → IsTrue (has o outs) → c a ≡ c o)) ⊎ (IsTrue (has a outs) × ((i : ℕ) → IsTrue (has i ins) → c a < c i))
+MayCome ins outs c a = (IsTrue (is_in a ins) × ((o : ℕ) → IsTrue (is_in o outs) → c a ≡ c o)) ⊎ (IsTrue (is_in a outs) × ((i : ℕ) → IsTrue (is_in i ins) → c a < c i))

@@ -1,3 +1,4 @@
+//! Commands and what each of them keeps.
 ghost use Rattle.cmd_tree.specs.Limits.{IsCommand, IsCommand-prop};
 
 use crate::name::NameSet;

@@ -1,3 +1,4 @@
+//! Copies of commands.
 ghost use Rattle.std.specs.Prelude.{◌≡◌, IfOk};
 
 use crate::command::Command;

@@ -1,3 +1,4 @@
+//! The marks of a command, listed.
 ghost use Rattle.std.specs.Prelude.{◌≡◌, ◌++◌, IfOk, OnOk};
 ghost use Rattle.cmd_tree.specs.Tree.{marks_of, marks_in};
 ghost use Rattle.cmd_tree.specs.View.{item_of};

@@ -1,3 +1,4 @@
+//! How many symbol places a command has, and how deep its choices stand in one another.
 ghost use Rattle.std.specs.Prelude.{◌≡◌, ◌+◌, ◌≤◌, ◌<◌, ◌^◌};
 ghost use Rattle.cmd_tree.specs.Tree.{places_of, places_in, depth_of, depth_in};
 ghost use Rattle.cmd_tree.specs.View.{item_of};

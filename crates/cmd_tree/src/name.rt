@@ -1,3 +1,4 @@
+//! Names, and sets of names in order of first occurrence.
 ghost use Rattle.std.specs.Prelude.{◌≡◌, ◌↔◌, ℕ, [], ◌∷◌, ◌++◌, length, IsTrue, IfOk, OnErr, slice_get, position};
 ghost use Rattle.std.specs.Option.{option_copied};
 ghost use Rattle.std.specs.List.{position_or_len, IsDistinct};
@@ -156,37 +157,5 @@ impl Clone for NameSet {
     fn clone(&self) -> Result<NameSet, AllocError> {
         let set = self.set.clone()?;
         Ok(NameSet { set })
-    }
-}
-
-#[cfg(test)]
-mod tests {
-    use super::*;
-    use std::test::Fail;
-
-    #[test]
-    fn numbers_names_by_first_occurrence(rt: HostRuntime) -> Result<(), Fail> {
-        let mut names = NameSet::new(rt.alloc());
-        assert!(rt; names.is_empty());
-        for (text, index) in [("a", 0), ("b", 1), ("a", 0), ("c7_x", 2), ("b", 1)] {
-            let name = Name::new(rt.alloc(), text.as_bytes())?;
-            assert_eq!(rt; names.insert(name)?, index, "at {text}");
-        }
-        let copy = names.clone()?;
-        for (text, index) in [
-            ("a", Some(0)),
-            ("b", Some(1)),
-            ("c7_x", Some(2)),
-            ("c", None),
-        ] {
-            let name = Name::new(rt.alloc(), text.as_bytes())?;
-            assert_eq!(rt; copy.index_of(&name), index, "at {text}");
-        }
-        assert_eq!(rt; copy.len(), 3);
-        assert_eq!(rt; copy.as_slice().len(), 3);
-        let last = copy.get(2).expect(&rt, "three names");
-        assert_eq!(rt; last.bytes(), b"c7_x".as_slice());
-        assert!(rt; copy.get(3).is_none());
-        Ok(())
     }
 }

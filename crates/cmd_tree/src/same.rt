@@ -1,3 +1,4 @@
+//! Whether two commands are equal.
 ghost use Rattle.std.specs.Prelude.{◌≡◌, ◌↔◌, IsTrue};
 
 use crate::command::Command;

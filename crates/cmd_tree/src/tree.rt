@@ -1,3 +1,4 @@
+//! The trees of commands: marks, items, sequences, processes.
 use sqlite_items::Items;
 use std::marker::Model;
 
@@ -36,8 +37,8 @@ pub struct Seq {
 
 impl Model for Seq {
     ghost use Rattle.cmd_tree.specs.Tree.{TSeq};
-    ghost use Rattle.cmd_tree.specs.Size.{size_of};
-    ghost use Rattle.cmd_tree.specs.Stored.{coded_seq};
+    ghost use Rattle.cmd_tree.specs.Mirror.Size.{size_of};
+    ghost use Rattle.cmd_tree.specs.Mirror.Stored.{coded_seq};
 
     ghost Value = { TSeq };
 
@@ -49,7 +50,7 @@ impl Model for Seq {
 
     ghost size = { size_of };
 
-    ghost use Rattle.cmd_tree.specs.Falls.{most-seq};
+    ghost use Rattle.cmd_tree.specs.Mirror.Falls.{most-seq};
     ghost use Rattle.std.proofs.Common.{arith};
 
     ghost size_decreases = { λ a h. Prim.omega (arith, most-seq a.items) };

@@ -3,7 +3,7 @@ use Rattle.di_io.proofs.Puts.{going_next, going_cut, front_more, front_then, gai
 use Rattle.cmd_text.proofs.Joined.{marks_at}
 use Rattle.cmd_text.proofs.writer.put_marks.Goals as goal
 use Rattle.std.proofs.Common.{get_or}
-use Rattle.cmd_tree.specs.RoundsProc.{input}
+use Rattle.cmd_tree.specs.Marks.{input}
 use Rattle.cmd_text.specs.Canonical.{mark_text}
 
 pub returns-in_err-put-clause-front : goal.returns-in_err-put-clause-front

@@ -3,7 +3,7 @@ use Rattle.std.specs.Prelude.{◌+◌, ◌*◌, ◌≤◌, List, [], ◌∷◌}
 use Rattle.std.proofs.Common.{arith}
 use denote.Param.Weighed.{most}
 use Rattle.cmd_tree.specs.Tree.{TSeq, depth_of, depth_in, depth_among}
-use Rattle.cmd_tree.specs.Size.{size_of}
+use Rattle.cmd_tree.specs.Mirror.Size.{size_of}
 use Rattle.cmd_tree.specs.View.{seq_of, seqs_of, item_of}
 use Rattle.cmd_tree.specs.declared.tree.Item.{Item}
 use Rattle.cmd_tree.specs.declared.tree.Item.TheVariants.{Burst, Alt}
