@@ -59,7 +59,11 @@ burst_more names [] h = absurd (omega arith)
 burst_more names (m ∷ []) h = absurd (omega arith)
 burst_more names (m ∷ n ∷ ms) h = refl
 
--- a body of one item, and of more
+-- a body of no item, of one, and of more
+pub body_none : (names : List (List ℕ)) (xs : List Item) (s : TSeq) → length xs < 1 → seq_of xs ≡ s → [] ≡ body_text names s
+body_none names [] s h e = ap (λ (t : TSeq). body_text names t) e
+body_none names (x ∷ xs) s h e = absurd (omega arith)
+
 pub body_one : (names : List (List ℕ)) (xs : List Item) (s : TSeq) (x : Item) → 1 ≤ length xs → length xs < 2 → x ≡ get_or xs 0 x → seq_of xs ≡ s
     → bare_text names (item_of x) ≡ body_text names s
 body_one names [] s x h l is e = absurd (omega arith)

@@ -17,10 +17,13 @@ ghost use Rattle.di_io.specs.Written.{Gains, GainsFront};
 mod host;
 mod mem_shelf;
 mod mem_sink;
+mod printer;
+mod said;
 
 pub use host::{HostShelf, HostSink};
 pub use mem_shelf::MemShelf;
 pub use mem_sink::MemSink;
+pub use printer::Printer;
 use std::alloc::{AllocError, Global};
 
 /// Memory was refused.
