@@ -1,3 +1,5 @@
 pub mod Shapes
 pub mod Kinds
 pub mod KindTraces
+pub mod Totals
+pub mod KindCounts

@@ -8,5 +8,5 @@ mod shape;
 
 pub use copy::{copy_kind, same_kind};
 pub use kind::{Kind, ports};
-pub use laws::rounds_law;
+pub use laws::{kinds_by_counts, rounds_law};
 pub use shape::Shape;

@@ -8,7 +8,7 @@ use Rattle.basic_kinds.specs.declared.kind.Kind.TheVariants.{Wire, Fork, C}
 use Rattle.basic_kinds.specs.KindTraces.{again, all_then_all}
 use Rattle.net_core.specs.declared.spec.NodeSpec.TheVariants.{Kind as Basic, Cmd}
 use Rattle.net_core.specs.Specs.{sides, outs_of, IsFormed, May}
-use Rattle.net_core.specs.Wiring.{Fits}
+use Rattle.net_core.specs.Wiring.{IsWired}
 use Rattle.net_core.specs.Networks.{IsBasic, Correct}
 use Rattle.cmd_tree.specs.Rounds.{Rounds}
 use Rattle.di_top.specs.Forms.{TakesThenGives}
@@ -67,7 +67,7 @@ module _ (c : Command) (n m : ℕ) (form : TakesThenGives c.procs n m) where
   pub form_net_right : IsRight c (form_net c n m)
   form_net_right = right c n m form.some_in form.some_out few_symbols (form_outs c n m form) form.same
 
-  pub form_net_fits : AllByRecursion (Fits (form_net c n m).wires) (form_net c n m).nodes
+  pub form_net_fits : AllByRecursion (IsWired (form_net c n m).wires) (form_net c n m).nodes
   form_net_fits = form_net_right.fits
 
   pub form_net_basic : IsBasic (form_net c n m)

@@ -7,25 +7,26 @@ use Rattle.std.proofs.Common.{eq-eqb, ne_eqb}
 use Rattle.cmd_tree.specs.declared.command.Command.{Command}
 use Rattle.cmd_tree.specs.declared.tree.Mark.{Mark}
 use Rattle.cmd_tree.specs.Limits.{marks_of_all, IsNumbered}
-use Rattle.basic_kinds.specs.KindTraces.{taken, given, again, all_then_all}
+use Rattle.cmd_tree.specs.Marks.{input, output}
+use Rattle.basic_kinds.specs.KindTraces.{again, all_then_all}
 use Rattle.net_core.specs.declared.spec.NodeSpec.TheVariants.{Cmd}
 use Rattle.net_core.specs.Specs.{gives_symbol, sides, outs_of}
 use Rattle.di_top.specs.Forms.{TakesThenGives}
 use Rattle.di_top.proofs.Sides.{range_split}
 
 -- the marks of inputs from a on
-symbol_taken : (a k x : ℕ) (rest : List Mark) → a ≤ x → x < a + k → gives_symbol (map taken (range_with_len a k) ++ rest) x ≡ false
+symbol_taken : (a k x : ℕ) (rest : List Mark) → a ≤ x → x < a + k → gives_symbol (map input (range_with_len a k) ++ rest) x ≡ false
 symbol_taken a zero x rest low high = absurd (omega arith)
 symbol_taken a (suc k) x rest low high = elim (cases_eq a x) [
   | inl e ↦ rw (eq-eqb a x e) refl
   | inr ne ↦ rw (ne_eqb a x ne) (symbol_taken (a + 1) k x rest (omega arith) (omega arith))
 ]
 
-symbol_later : (a k x : ℕ) (rest : List Mark) → a + k ≤ x → gives_symbol (map taken (range_with_len a k) ++ rest) x ≡ gives_symbol rest x
+symbol_later : (a k x : ℕ) (rest : List Mark) → a + k ≤ x → gives_symbol (map input (range_with_len a k) ++ rest) x ≡ gives_symbol rest x
 symbol_later a zero x rest past = refl
 symbol_later a (suc k) x rest past = rw (ne_eqb a x (omega arith)) (symbol_later (a + 1) k x rest (omega arith))
 
-symbol_given : (a k x : ℕ) (rest : List Mark) → a ≤ x → x < a + k → gives_symbol (map given (range_with_len a k) ++ rest) x ≡ true
+symbol_given : (a k x : ℕ) (rest : List Mark) → a ≤ x → x < a + k → gives_symbol (map output (range_with_len a k) ++ rest) x ≡ true
 symbol_given a zero x rest low high = absurd (omega arith)
 symbol_given a (suc k) x rest low high = elim (cases_eq a x) [
   | inl e ↦ rw (eq-eqb a x e) refl
@@ -33,7 +34,7 @@ symbol_given a (suc k) x rest low high = elim (cases_eq a x) [
 ]
 
 abbrev form_marks : ℕ → ℕ → List Mark
-form_marks n m = map taken (range_with_len 0 n) ++ (map given (range_with_len n m) ++ [])
+form_marks n m = map input (range_with_len 0 n) ++ (map output (range_with_len n m) ++ [])
 
 marks_are : (n m : ℕ) → marks_of_all (again (all_then_all n m) ∷ []) ≡ form_marks n m
 marks_are n m = append-nil (form_marks n m)
@@ -49,10 +50,10 @@ form_sides n m =
     ap (map (gives_symbol (form_marks n m))) (range_split n m)
     ∙ map-append (gives_symbol (form_marks n m)) (range_with_len 0 n) (range_with_len n m)
     ∙ ap (λ (l : List Bool). l ++ map (gives_symbol (form_marks n m)) (range_with_len n m))
-    (constant (gives_symbol (form_marks n m)) 0 n false (λ x low high. symbol_taken 0 n x (map given (range_with_len n m) ++ []) low high))
+    (constant (gives_symbol (form_marks n m)) 0 n false (λ x low high. symbol_taken 0 n x (map output (range_with_len n m) ++ []) low high))
     ∙ ap (λ (l : List Bool). replicate n false ++ l)
     (constant (gives_symbol (form_marks n m)) n m true
-    (λ x low high. symbol_later 0 n x (map given (range_with_len n m) ++ []) (omega arith) ∙ symbol_given n m x [] low high))
+    (λ x low high. symbol_later 0 n x (map output (range_with_len n m) ++ []) (omega arith) ∙ symbol_given n m x [] low high))
 
 -- marks numbered one after the other take that many numbers
 past_range : (f : ℕ → Mark) → ((p : ℕ) → (f p).sym.0 ≡ p) → (k n : ℕ) (rest : List Mark) (all : ℕ) → IsNumbered k (map f (range_with_len k n) ++ rest) all → IsNumbered (k + n) rest all
@@ -69,9 +70,9 @@ names_are c n m form =
     let P : List Mark → Type 0 = λ ms. IsNumbered 0 ms (length c.names) in
     let marks : IsNumbered 0 (form_marks n m) (length c.names) = subst P (ap marks_of_all form.same ∙ marks_are n m) c.valid.numbered in
     let low : 0 + n ≡ n = omega arith in
-    let outs = subst (λ (j : ℕ). IsNumbered j (map given (range_with_len n m) ++ []) (length c.names)) low
-    (past_range taken (λ p. refl) 0 n (map given (range_with_len n m) ++ []) (length c.names) marks) in
-    past_range given (λ p. refl) n m [] (length c.names) outs
+    let outs = subst (λ (j : ℕ). IsNumbered j (map output (range_with_len n m) ++ []) (length c.names)) low
+    (past_range input (λ p. refl) 0 n (map output (range_with_len n m) ++ []) (length c.names) marks) in
+    past_range output (λ p. refl) n m [] (length c.names) outs
 
 -- the symbols of a command of the form are its inputs and then its outputs
 pub form_outs : (c : Command) (n m : ℕ) → TakesThenGives c.procs n m → outs_of (Cmd c) ≡ sides n m

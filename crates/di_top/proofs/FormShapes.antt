@@ -3,7 +3,7 @@ use Rattle.std.proofs.Common.{◌≡◌, ◌≢◌, ℕ, zero, suc, ◌+◌, ◌
 use Rattle.std.specs.List.{AllByRecursion}
 use Rattle.cmd_tree.specs.declared.command.Command.{Command}
 use Rattle.basic_kinds.specs.declared.kind.Kind.TheVariants.{Fork, C}
-use Rattle.net_core.specs.Wiring.{Fits, Circuit}
+use Rattle.net_core.specs.Wiring.{IsWired, Circuit}
 use Rattle.di_top.specs.declared.form.Form.{Form}
 use Rattle.di_top.specs.Forms.{IsFormed}
 use Rattle.di_top.specs.FormNets.{one_net, join_net, form_net}
@@ -27,11 +27,11 @@ form_net_both c (suc (suc n)) (suc zero) h k = absurd (omega arith)
 form_net_both c (suc (suc n)) (suc (suc m)) h k = refl
 
 module _ (f : Form) (h : IsFormed f) where
-  all_fit : AllByRecursion (Fits (form_net f.command f.inputs f.outputs).wires) (form_net f.command f.inputs f.outputs).nodes
+  all_fit : AllByRecursion (IsWired (form_net f.command f.inputs f.outputs).wires) (form_net f.command f.inputs f.outputs).nodes
   all_fit = form_net_fits f.command f.inputs f.outputs h
 
   abbrev FitsAs : Circuit → Type 0
-  FitsAs net = AllByRecursion (Fits net.wires) net.nodes
+  FitsAs net = AllByRecursion (IsWired net.wires) net.nodes
 
   pub fork_fits : f.inputs ≡ 1 → f.outputs ≢ 1 → FitsAs (one_net f.command (Fork f.outputs) (f.outputs + 1))
   fork_fits one more =

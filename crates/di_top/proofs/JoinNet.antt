@@ -9,7 +9,7 @@ use Rattle.cmd_tree.specs.declared.command.Command.{Command}
 use Rattle.basic_kinds.specs.declared.kind.Kind.TheVariants.{Fork, C}
 use Rattle.net_core.specs.declared.spec.NodeSpec.TheVariants.{Kind as Basic, Cmd}
 use Rattle.net_core.specs.Specs.{sides, outs_of, IsFormed, May}
-use Rattle.net_core.specs.Wiring.{Circuit, Fits, IsClosed, count, picked, flows, wiring}
+use Rattle.net_core.specs.Wiring.{Circuit, IsWired, IsClosed, count, picked, flows, wiring}
 use Rattle.net_core.specs.Networks.{directions, gives, takes, end_node, fabric}
 use Rattle.net_core.proofs.Counting.{count_nil, count_same, count_other, count-append}
 use Rattle.cmd_tree.specs.Rounds.{Rounds}
@@ -27,14 +27,14 @@ module _ (n m : ℕ) where
   abbrev spread_ends : List ℕ
   spread_ends = (n + m) ∷ range_with_len n m
 
-  join_fits : IsFormed (Basic (C n)) → Fits (n + m + 1) (record { spec = Basic (C n); ends = join_ends })
+  join_fits : IsFormed (Basic (C n)) → IsWired (n + m + 1) (record { spec = Basic (C n); ends = join_ends })
   join_fits formed = record {
     sized = omega (arith, length-append (range_with_len 0 n) ((n + m) ∷ []), length-range_with_len 0 n, sides_long n 1);
     known = all_append (λ w. w < n + m + 1) (range_with_len 0 n) ((n + m) ∷ []) (range_below (n + m + 1) 0 n (omega arith)) (omega arith, tt);
     formed = formed;
   }
 
-  spread_fits : IsFormed (Basic (Fork m)) → Fits (n + m + 1) (record { spec = Basic (Fork m); ends = spread_ends })
+  spread_fits : IsFormed (Basic (Fork m)) → IsWired (n + m + 1) (record { spec = Basic (Fork m); ends = spread_ends })
   spread_fits formed = record {
     sized = omega (arith, length-range_with_len n m, sides_long 1 m);
     known = (omega arith, range_below (n + m + 1) n m (omega arith));
@@ -85,7 +85,7 @@ module _ (c : Command) (n m : ℕ) (some_in : 0 < n) (some_out : 0 < m) (outs : 
   abbrev net : Circuit
   net = join_net c n m
 
-  fits : AllByRecursion (Fits (n + m + 1)) net.nodes
+  fits : AllByRecursion (IsWired (n + m + 1)) net.nodes
   fits = (row_fits (Cmd c) n m (n + m + 1) outs tt (omega arith), (join_fits n m join_formed, (spread_fits n m spread_formed, tt)))
 
   drivers : (w : ℕ) → count w (wiring true net.nodes) ≡ count w (range_with_len 0 n) + count w (range_with_len n m) + count w ((n + m) ∷ [])
@@ -219,6 +219,7 @@ module _ (c : Command) (n m : ℕ) (some_in : 0 < n) (some_out : 0 < m) (outs : 
     closed = closed;
     basic = (refl, (refl, tt));
     correct = record {
+      network = record { some = omega arith; wired = fits };
       closed = closed;
       specified = refl;
       sound = join_spread_sound (fabric net) n m join_spread;

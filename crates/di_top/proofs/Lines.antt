@@ -8,7 +8,7 @@ use Rattle.cmd_tree.specs.Limits.{marks_of_all}
 use Rattle.net_core.specs.declared.spec.NodeSpec.{NodeSpec}
 use Rattle.net_core.specs.declared.spec.NodeSpec.TheVariants.{Cmd}
 use Rattle.net_core.specs.Specs.{gives_symbol, outs_of}
-use Rattle.net_core.specs.Wiring.{Node, Fits}
+use Rattle.net_core.specs.Wiring.{Node, IsWired}
 use Rattle.di_top.specs.NetText.{numbers_text, crossings_text, nodes_text, node_text, ports_text, nodes_net_text, net_text_of, head_text}
 use Rattle.di_top.specs.Netlists.{IsWhole, first_outs, port_line, number_text, crossing_text}
 
@@ -41,10 +41,10 @@ outs_long c outs ns i told h =
     omega (arith, ap length told, length-map-range_with_len (gives_symbol (marks_of_all c.procs)) 0 (length ns))
 
 -- a node of a network is whole, and so is each of a list
-pub fit_whole : (wires : ℕ) (x : Node) → Fits wires x → IsWhole x
+pub fit_whole : (wires : ℕ) (x : Node) → IsWired wires x → IsWhole x
 fit_whole wires x f = record { sized = f.sized; formed = f.formed }
 
-pub all_whole : (wires : ℕ) (xs : List Node) → AllByRecursion (Fits wires) xs → AllByRecursion IsWhole xs
+pub all_whole : (wires : ℕ) (xs : List Node) → AllByRecursion (IsWired wires) xs → AllByRecursion IsWhole xs
 all_whole wires [] h = tt
 all_whole wires (x ∷ xs) h = (fit_whole wires x h.0, all_whole wires xs h.1)
 
@@ -64,7 +64,7 @@ first_directed (y ∷ ys) x c h is s =
     let spec : y.spec ≡ Cmd c = ap (λ (z : Node). z.spec) (sym is) ∙ s in
     ap outs_of spec
 
-pub rest_whole : (wires : ℕ) (nodes : List Node) → 1 ≤ length nodes → AllByRecursion (Fits wires) nodes
+pub rest_whole : (wires : ℕ) (nodes : List Node) → 1 ≤ length nodes → AllByRecursion (IsWired wires) nodes
     → AllByRecursion IsWhole (take (length nodes - 1) (drop 1 nodes))
 rest_whole wires [] h f = absurd (omega arith)
 rest_whole wires (y ∷ ys) h f =

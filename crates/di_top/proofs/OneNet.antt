@@ -10,7 +10,7 @@ use Rattle.basic_kinds.specs.declared.kind.Kind.{Kind}
 use Rattle.net_core.specs.declared.spec.NodeSpec.{NodeSpec}
 use Rattle.net_core.specs.declared.spec.NodeSpec.TheVariants.{Kind as Basic, Cmd}
 use Rattle.net_core.specs.Specs.{sides, outs_of, IsFormed, May}
-use Rattle.net_core.specs.Wiring.{Circuit, Fits, IsClosed, count, picked, flows, wiring}
+use Rattle.net_core.specs.Wiring.{Circuit, IsWired, IsClosed, count, picked, flows, wiring}
 use Rattle.net_core.specs.Networks.{directions, gives, takes, end_node, fabric, IsBasic, IsClean, Correct}
 use Rattle.net_core.proofs.Counting.{count_nil, count-append}
 use Rattle.cmd_tree.specs.Rounds.{Rounds}
@@ -21,7 +21,7 @@ use Rattle.di_top.proofs.Sides.{twofold, exchanged, gives_first, gives_second, t
 
 -- What a network of a command is shown to be.
 pub record IsRight (c : Command) (net : Circuit) : Type 0 where
-  pub fits : AllByRecursion (Fits net.wires) net.nodes
+  pub fits : AllByRecursion (IsWired net.wires) net.nodes
   pub closed : IsClosed net
   pub basic : IsBasic net
   pub correct : Correct net (Cmd c)
@@ -31,7 +31,7 @@ pub sides_long : (n m : ℕ) → length (sides n m) ≡ n + m
 sides_long n m = omega (arith, length-append (replicate n false) (replicate m true), length-replicate n false, length-replicate m true)
 
 -- a node whose ports are n inputs and m outputs, with the wires in a row
-pub row_fits : (s : NodeSpec) (n m k : ℕ) → outs_of s ≡ sides n m → IsFormed s → n + m ≤ k → Fits k (record { spec = s; ends = range_with_len 0 (n + m) })
+pub row_fits : (s : NodeSpec) (n m k : ℕ) → outs_of s ≡ sides n m → IsFormed s → n + m ≤ k → IsWired k (record { spec = s; ends = range_with_len 0 (n + m) })
 row_fits s n m k outs formed le = record {
   sized = length-range_with_len 0 (n + m) ∙ sym (ap (λ (l : List Bool). length l) outs ∙ sides_long n m);
   known = range_below k 0 (n + m) (omega arith);
@@ -69,7 +69,7 @@ module _ (c : Command) (kind : Kind) (n m : ℕ) (some_in : 0 < n) (some_out : 0
   abbrev net : Circuit
   net = one_net c kind (n + m)
 
-  fits : AllByRecursion (Fits (n + m)) net.nodes
+  fits : AllByRecursion (IsWired (n + m)) net.nodes
   fits = (row_fits (Cmd c) n m (n + m) outs tt (omega arith), (row_fits (Basic kind) n m (n + m) kind_outs formed (omega arith), tt))
 
   drivers : (w : ℕ) → count w (wiring true net.nodes) ≡ count w (range_with_len 0 n) + count w (range_with_len n m)
@@ -159,6 +159,7 @@ module _ (c : Command) (kind : Kind) (n m : ℕ) (some_in : 0 < n) (some_out : 0
     closed = closed;
     basic = (refl, tt);
     correct = record {
+      network = record { some = omega arith; wired = fits };
       closed = closed;
       specified = refl;
       sound = one_rounds_sound (fabric net) n m one_rounds;

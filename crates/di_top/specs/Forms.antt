@@ -5,7 +5,8 @@ use Rattle.cmd_tree.specs.declared.tree.Dir.{Dir}
 use Rattle.cmd_tree.specs.declared.tree.Mark.{Mark}
 use Rattle.cmd_tree.specs.declared.tree.Proc.{Proc}
 use Rattle.cmd_tree.specs.Tree.{TSeq}
-use Rattle.basic_kinds.specs.KindTraces.{taken, given, again, all_then_all}
+use Rattle.cmd_tree.specs.Marks.{input, output}
+use Rattle.basic_kinds.specs.KindTraces.{again, all_then_all}
 use Rattle.di_top.specs.declared.form.Form.{Form}
 
 -- n inputs and then m outputs, some of each
@@ -33,8 +34,8 @@ pub record BodyOf (body : TSeq) (n m : ℕ) : Type 0 where
 pub record BurstsOf (first last : List Mark) (n m : ℕ) : Type 0 where
   pub some_in : 0 < n
   pub some_out : 0 < m
-  pub ins : first ≡ map taken (range_with_len 0 n)
-  pub outs : last ≡ map given (range_with_len n m)
+  pub ins : first ≡ map input (range_with_len 0 n)
+  pub outs : last ≡ map output (range_with_len n m)
 
 -- the symbol p with this direction
 abbrev pub mark_of : Dir → ℕ → Mark

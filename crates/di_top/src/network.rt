@@ -1,6 +1,6 @@
 ghost use Rattle.std.specs.Prelude.{◌≡◌, ◌+◌, ◌<◌, ◌≤◌, ◌^◌, ◌∷◌, [], ◌++◌, length, IfOk, OnOk};
 ghost use Rattle.std.specs.List.{AllByRecursion, range_with_len};
-ghost use Rattle.net_core.specs.Wiring.{Fits};
+ghost use Rattle.net_core.specs.Wiring.{IsWired};
 ghost use Rattle.di_top.specs.FormNets as shape;
 ghost use Rattle.di_top.specs.FormNets.{form_net};
 ghost use Rattle.di_top.specs.Forms.{IsFormed};
@@ -31,7 +31,7 @@ pub fn build_net(alloc: Global, form: Form) -> Result<Net, AllocError>
 
 /// One component, whose ports are joined to those of the environment in order.
 fn one_net(alloc: Global, command: Command, kind: Kind, wires: u32) -> Result<Net, AllocError>
-    requires fit { AllByRecursion (Fits wires) (shape.one_net command kind wires).nodes }
+    requires fit { AllByRecursion (IsWired wires) (shape.one_net command kind wires).nodes }
     requires few { wires + 1 < 2 ^ 32 }
     ensures { IfOk result (λ net. net ≡ shape.one_net command kind wires) }
 {
@@ -43,7 +43,7 @@ fn one_net(alloc: Global, command: Command, kind: Kind, wires: u32) -> Result<Ne
 
 /// A C whose output is the input of a FORK.
 fn join_net(alloc: Global, command: Command, inputs: u32, outputs: u32) -> Result<Net, AllocError>
-    requires fit { AllByRecursion (Fits (inputs + outputs + 1)) (shape.join_net command inputs outputs).nodes }
+    requires fit { AllByRecursion (IsWired (inputs + outputs + 1)) (shape.join_net command inputs outputs).nodes }
     requires few { inputs + outputs + 2 < 2 ^ 32 }
     ensures { IfOk result (λ net. net ≡ shape.join_net command inputs outputs) }
 {

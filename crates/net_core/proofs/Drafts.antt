@@ -11,7 +11,7 @@ use Rattle.net_core.specs.declared.spec.NodeSpec.{NodeSpec}
 use Rattle.net_core.specs.declared.spec.NodeSpec.TheVariants.{Kind, Cmd}
 use Rattle.net_core.specs.declared.net.Ends.{Ends}
 use Rattle.net_core.specs.Specs.{outs_of, IsFormed, gives_symbol}
-use Rattle.net_core.specs.Wiring.{Node, count, picked, side, flows, wiring, Fits}
+use Rattle.net_core.specs.Wiring.{Node, count, picked, side, flows, wiring, IsWired}
 use Rattle.net_core.specs.Tallies.{Added, Roomy, Kept, KeptDraft, drivers_at, receivers_at, no_ends}
 use Rattle.net_core.proofs.Counting.{count-append, count_above, count_few, picked_all, picked_few, all_weaker, count_nil}
 
@@ -28,18 +28,18 @@ ports_few (Kind k) h =
 ports_few (Cmd c) h =
     omega (arith, c.valid.few_symbols, length-map-range_with_len (gives_symbol (marks_of_all c.procs)) 0 (length c.names))
 
-pub fits_more : (k : ℕ) (x : Node) → Fits k x → Fits (k + 1) x
+pub fits_more : (k : ℕ) (x : Node) → IsWired k x → IsWired (k + 1) x
 fits_more k x f = record {
   sized = f.sized;
   known = all_weaker (λ w. w < k) (λ w. w < k + 1) x.ends (λ w h. omega arith) f.known;
   formed = f.formed;
 }
 
-pub all_fit_more : (k : ℕ) (xs : List Node) → AllByRecursion (Fits k) xs → AllByRecursion (Fits (k + 1)) xs
+pub all_fit_more : (k : ℕ) (xs : List Node) → AllByRecursion (IsWired k) xs → AllByRecursion (IsWired (k + 1)) xs
 all_fit_more k [] all = tt
 all_fit_more k (x ∷ xs) all = (fits_more k x all.0, all_fit_more k xs all.1)
 
-pub all_fit_push : (k : ℕ) (xs : List Node) (x : Node) → AllByRecursion (Fits k) xs → Fits k x → AllByRecursion (Fits k) (xs ++ x ∷ [])
+pub all_fit_push : (k : ℕ) (xs : List Node) (x : Node) → AllByRecursion (IsWired k) xs → IsWired k x → AllByRecursion (IsWired k) (xs ++ x ∷ [])
 all_fit_push k [] x all f = (f, tt)
 all_fit_push k (y ∷ xs) x all f = (all.0, all_fit_push k xs x all.1 f)
 
@@ -49,21 +49,21 @@ flows_push b [] x = append-nil (side b x)
 flows_push b (y ∷ xs) x = ap (λ (l : List ℕ). side b y ++ l) (flows_push b xs x) ∙ sym (append_assoc (side b y) (flows b xs) (side b x))
 
 -- a wire that is not known is at no port
-pub side_unknown : (k w : ℕ) (b : Bool) (x : Node) → k ≤ w → Fits k x → count w (side b x) ≡ 0
+pub side_unknown : (k w : ℕ) (b : Bool) (x : Node) → k ≤ w → IsWired k x → count w (side b x) ≡ 0
 side_unknown k w b x le f = count_above k w (side b x) le (picked_all (λ v. v < k) b (outs_of x.spec) x.ends f.known)
 
-pub flows_unknown : (k w : ℕ) (b : Bool) (xs : List Node) → k ≤ w → AllByRecursion (Fits k) xs → count w (flows b xs) ≡ 0
+pub flows_unknown : (k w : ℕ) (b : Bool) (xs : List Node) → k ≤ w → AllByRecursion (IsWired k) xs → count w (flows b xs) ≡ 0
 unfolding flows
 flows_unknown k w b [] le all = count_nil w
 flows_unknown k w b (x ∷ xs) le all =
     omega (arith, count-append w (side b x) (flows b xs), side_unknown k w b x le all.0, flows_unknown k w b xs le all.1)
 
 -- the counts are far below their type's end
-pub side_few : (k w : ℕ) (b : Bool) (x : Node) → Fits k x → count w (side b x) ≤ 2 ^ 28
+pub side_few : (k w : ℕ) (b : Bool) (x : Node) → IsWired k x → count w (side b x) ≤ 2 ^ 28
 side_few k w b x f =
     omega (arith, count_few w (side b x), picked_few b (outs_of x.spec) x.ends, f.sized, ports_few x.spec f.formed)
 
-pub flows_few : (k w : ℕ) (b : Bool) (xs : List Node) → AllByRecursion (Fits k) xs → count w (flows b xs) ≤ 2 ^ 28 * length xs
+pub flows_few : (k w : ℕ) (b : Bool) (xs : List Node) → AllByRecursion (IsWired k) xs → count w (flows b xs) ≤ 2 ^ 28 * length xs
 unfolding flows
 flows_few k w b [] all = omega (arith, count_nil w)
 flows_few k w b (x ∷ xs) all =
@@ -111,7 +111,7 @@ one_wire s xs k ends h = record {
 }
 
 -- one more component
-pub one_part : (s : NodeSpec) (xs : List Node) (k : ℕ) (ends new : List Ends) (x : Node) → KeptDraft s xs k ends → Fits k x → suc (suc (length xs)) < 2 ^ 32
+pub one_part : (s : NodeSpec) (xs : List Node) (k : ℕ) (ends new : List Ends) (x : Node) → KeptDraft s xs k ends → IsWired k x → suc (suc (length xs)) < 2 ^ 32
     → Added ends new (side true x) (side false x) → KeptDraft s (xs ++ x ∷ []) k new
 one_part s xs k ends new x h fit few added = record {
   formed = h.formed;
@@ -127,7 +127,7 @@ one_part s xs k ends new x h fit few added = record {
 }
 
 -- the environment, and all is there
-pub whole : (s : NodeSpec) (xs : List Node) (k : ℕ) (ends new : List Ends) (ws : List ℕ) → KeptDraft s xs k ends → Fits k (record { spec = s; ends = ws })
+pub whole : (s : NodeSpec) (xs : List Node) (k : ℕ) (ends new : List Ends) (ws : List ℕ) → KeptDraft s xs k ends → IsWired k (record { spec = s; ends = ws })
     → Added ends new (picked false (outs_of s) ws) (picked true (outs_of s) ws) → Kept (record { spec = s; ends = ws } ∷ xs) k new
 unfolding wiring
 whole s xs k ends new ws h fit added = record {
@@ -152,5 +152,5 @@ last_is xs x y items n are last read =
 pub written_all : {A : Type 0} (new old : List A) (n : ℕ) → length new ≡ n → take n (new ++ drop (length new) old) ≡ new
 written_all new old n e = take_at new (drop (length new) old) n e
 
-pub wires_few : (k : ℕ) (x : Node) → Fits k x → length x.ends < 2 ^ 28
+pub wires_few : (k : ℕ) (x : Node) → IsWired k x → length x.ends < 2 ^ 28
 wires_few k x f = omega (arith, f.sized, ports_few x.spec f.formed)

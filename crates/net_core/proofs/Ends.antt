@@ -5,7 +5,7 @@ use Rattle.std.specs.List.{AllByRecursion}
 use Rattle.std.proofs.lemmas.Bool.{cases_eq, false≢true}
 use Rattle.std.proofs.lemmas.List.{length-map}
 use Rattle.net_core.specs.Specs.{outs_of}
-use Rattle.net_core.specs.Wiring.{Node, Circuit, Fits, IsClosed, count, picked, flows, wiring, side, driven, taken}
+use Rattle.net_core.specs.Wiring.{Node, Circuit, IsWired, IsClosed, count, picked, flows, wiring, side, driven, received}
 use Rattle.net_core.specs.Networks.{directions_at, gives, takes, end_of, end_at, Once, IsClosedByEnds}
 use Rattle.net_core.proofs.Counting.{count_nil, count_same, count_other, count-append}
 
@@ -137,11 +137,11 @@ module _ (b : Bool) (w : ℕ) (ds : List Bool) (x : Node) (xs : List Node) (S : 
   has_nodes vs us h l = subst (λ k. Has (ℕ × ℕ) S k) (sym (count-append w vs us))
       (has_sum ℕ (ℕ × ℕ) (ℕ × ℕ) (AtPort b w ds x.ends) (AtPart b w xs) S (λ p. (0, p)) (λ i. (suc i.0, i.1)) beside (count w vs) (count w us) h l)
 
-has_parts : (b : Bool) (w k : ℕ) (xs : List Node) → AllByRecursion (Fits k) xs → Has (ℕ × ℕ) (AtPart b w xs) (count w (flows b xs))
+has_parts : (b : Bool) (w k : ℕ) (xs : List Node) → AllByRecursion (IsWired k) xs → Has (ℕ × ℕ) (AtPart b w xs) (count w (flows b xs))
 unfolding flows
 has_parts b w k [] all = none (count_nil w) (λ i s. no_port b i.1 s.0)
 has_parts b w k (x ∷ xs) all =
-    let fits : Fits k x = all.0 in
+    let fits : IsWired k x = all.0 in
     has_nodes b w (outs_of x.spec) x xs (AtPart b w (x ∷ xs)) (λ p s. s) (λ n p s. s) (λ p s. s) (λ n p s. s)
     (side b x) (flows b xs) (has_ports b w (outs_of x.spec) x.ends fits.sized) (has_parts b w k xs all.1)
 
@@ -176,11 +176,11 @@ pub own_directions : (n : ℕ) (o : Option Node) → ◌≢◌ {A = ℕ} n 0 →
 own_directions n None h = refl
 own_directions n (Some x) h = rw (ne_eqb n 0 h) refl
 
-first_sized : (k : ℕ) (x : Node) → Fits k x → length x.ends ≡ length (map not (outs_of x.spec))
+first_sized : (k : ℕ) (x : Node) → IsWired k x → length x.ends ≡ length (map not (outs_of x.spec))
 first_sized k x fits = fits.sized ∙ sym (length-map (outs_of x.spec) not)
 
 -- the ends of a network at the wire w, on one side
-has_net : (b : Bool) (w k : ℕ) (xs : List Node) → AllByRecursion (Fits k) xs → Has (ℕ × ℕ) (AtNode b w xs) (count w (wiring b xs))
+has_net : (b : Bool) (w k : ℕ) (xs : List Node) → AllByRecursion (IsWired k) xs → Has (ℕ × ℕ) (AtNode b w xs) (count w (wiring b xs))
 unfolding wiring
 has_net b w k [] all = none (count_nil w) (λ i s. no_port b i.1 s.0)
 has_net b w k (x ∷ xs) all =
@@ -198,10 +198,10 @@ has_net b w k (x ∷ xs) all =
 abbrev AtWire : (ℕ → ℕ → Bool) → Circuit → ℕ → ℕ × ℕ → Type 0
 AtWire f c w i = (f i.0 i.1 ≡ true) × (end_at c i.0 i.1 ≡ w)
 
-has_gives : (c : Circuit) (w : ℕ) → AllByRecursion (Fits c.wires) c.nodes → Has (ℕ × ℕ) (AtWire (gives c) c w) (count w (driven c))
+has_gives : (c : Circuit) (w : ℕ) → AllByRecursion (IsWired c.wires) c.nodes → Has (ℕ × ℕ) (AtWire (gives c) c w) (count w (driven c))
 has_gives c w fit = has_net true w c.wires c.nodes fit
 
-has_takes : (c : Circuit) (w : ℕ) → AllByRecursion (Fits c.wires) c.nodes → Has (ℕ × ℕ) (AtWire (takes c) c w) (count w (taken c))
+has_takes : (c : Circuit) (w : ℕ) → AllByRecursion (IsWired c.wires) c.nodes → Has (ℕ × ℕ) (AtWire (takes c) c w) (count w (received c))
 has_takes c w fit = has_net false w c.wires c.nodes fit
 
 both : (n p m q : ℕ) → ◌≡◌ {A = ℕ × ℕ} (m, q) (n, p) → (m ≡ n) × (q ≡ p)
@@ -225,10 +225,10 @@ module _ (f : ℕ → ℕ → Bool) (c : Circuit) (w k : ℕ) where
       absurd (ne (pair i j (x.0 ∙ sym y.0) (x.1 ∙ sym y.1)))
 
 -- Where each node has one known wire at each port, the two ways to say that a network is closed are one.
-pub closed_by_ends : (c : Circuit) → AllByRecursion (Fits c.wires) c.nodes → IsClosed c → IsClosedByEnds c
+pub closed_by_ends : (c : Circuit) → AllByRecursion (IsWired c.wires) c.nodes → IsClosed c → IsClosedByEnds c
 closed_by_ends c fit closed w h =
-    (once_of_count (gives c) c w (count w (driven c)) (has_gives c w fit) (closed w h).0, once_of_count (takes c) c w (count w (taken c)) (has_takes c w fit) (closed w h).1)
+    (once_of_count (gives c) c w (count w (driven c)) (has_gives c w fit) (closed w h).0, once_of_count (takes c) c w (count w (received c)) (has_takes c w fit) (closed w h).1)
 
-pub closed_by_counts : (c : Circuit) → AllByRecursion (Fits c.wires) c.nodes → IsClosedByEnds c → IsClosed c
+pub closed_by_counts : (c : Circuit) → AllByRecursion (IsWired c.wires) c.nodes → IsClosedByEnds c → IsClosed c
 closed_by_counts c fit ends w h =
-    (count_of_once (gives c) c w (count w (driven c)) (has_gives c w fit) (ends w h).0, count_of_once (takes c) c w (count w (taken c)) (has_takes c w fit) (ends w h).1)
+    (count_of_once (gives c) c w (count w (driven c)) (has_gives c w fit) (ends w h).0, count_of_once (takes c) c w (count w (received c)) (has_takes c w fit) (ends w h).1)

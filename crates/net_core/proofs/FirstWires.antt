@@ -5,22 +5,22 @@ use Rattle.std.specs.List.{AllByRecursion, position_or_len}
 use Rattle.std.proofs.lemmas.Bool.{cases_Bool, cases_eq, cases_lt}
 use Rattle.std.proofs.lemmas.List.{get_or_default}
 use Rattle.std.proofs.lemmas.Option.{none-some, same_Some}
-use Rattle.net_core.specs.Wiring.{Node, Circuit, Fits, IsClosed, count, moved}
+use Rattle.net_core.specs.Wiring.{Node, Circuit, IsWired, IsClosed, count, moved}
 use Rattle.net_core.specs.Networks.{directions_at, directions, gives, takes, end_of, end_at, end_node, end_port, IsThrough}
-use Rattle.net_core.specs.Walk.{Walk, is_in, with_new, output_wires, list_node, next_left, step_at, step, goes_on, walked, ends_at, walk, walk_of}
+use Rattle.net_core.specs.Walk.{Walk, is_in, with_new, output_wires, list_node, next_left, step_at, walk_step, goes_on, walked, ends_at, walk, walk_of}
 use Rattle.net_core.proofs.Counting.{count_nil, count_same, count_other, count-append}
-use Rattle.net_core.proofs.Moved.{end_moved}
+use Rattle.net_core.proofs.Moved.{end_moved, node_at}
 use Rattle.net_core.proofs.Found.{all_nodes, same_ports, gives_located, takes_located}
 use Rattle.net_core.proofs.Places.{count_at, place_of}
 use Rattle.net_core.proofs.WithNew.{in_counted}
-use Rattle.net_core.proofs.Walked.{ended, node_at}
+use Rattle.net_core.proofs.Walked.{ended}
 use Rattle.net_core.proofs.WalkOrder.{moved_inside}
 
 -- ---- numbers stay where they are
 
-record Begins (xs ys : List ℕ) : Type 0 where
-  shorter : length xs ≤ length ys
-  same : (p : ℕ) → p < length xs → get_or ys p 0 ≡ get_or xs p 0
+pub record Begins (xs ys : List ℕ) : Type 0 where
+  pub shorter : length xs ≤ length ys
+  pub same : (p : ℕ) → p < length xs → get_or ys p 0 ≡ get_or xs p 0
 
 begins_same : (xs : List ℕ) → Begins xs xs
 begins_same xs = record { shorter = omega arith; same = λ p h. refl }
@@ -28,14 +28,17 @@ begins_same xs = record { shorter = omega arith; same = λ p h. refl }
 begins_then : (xs ys zs : List ℕ) → Begins xs ys → Begins ys zs → Begins xs zs
 begins_then xs ys zs a b = record { shorter = omega (arith, a.shorter, b.shorter); same = λ p h. b.same p (omega (arith, a.shorter)) ∙ a.same p h }
 
-front : (xs ys : List ℕ) (p : ℕ) → p < length xs → get_or (xs ++ ys) p 0 ≡ get_or xs p 0
+pub front : (xs ys : List ℕ) (p : ℕ) → p < length xs → get_or (xs ++ ys) p 0 ≡ get_or xs p 0
 front [] ys p h = absurd (omega arith)
 front (x ∷ xs) ys zero h = refl
 front (x ∷ xs) ys (suc p) h = front xs ys p (omega arith)
 
+begins_more : (xs ys : List ℕ) → Begins xs (xs ++ ys)
+begins_more xs ys = record { shorter = omega (arith, length-append xs ys); same = front xs ys }
+
 begins_put : (b : Bool) (w : ℕ) (ns : List ℕ) → Begins ns (if b then ns else ns ++ w ∷ [])
 begins_put true w ns = begins_same ns
-begins_put false w ns = record { shorter = omega (arith, length-append ns (w ∷ [])); same = front ns (w ∷ []) }
+begins_put false w ns = begins_more ns (w ∷ [])
 
 begins_new : (ns vs : List ℕ) → Begins ns (with_new ns vs)
 unfolding with_new
@@ -44,28 +47,41 @@ begins_new ns (w ∷ vs) =
     begins_then ns (if is_in w ns then ns else ns ++ w ∷ []) (with_new (if is_in w ns then ns else ns ++ w ∷ []) vs)
     (begins_put (is_in w ns) w ns) (begins_new (if is_in w ns then ns else ns ++ w ∷ []) vs)
 
-begins_listed : (c : Circuit) (n : ℕ) (w : Walk) → Begins w.numbered (list_node c n w).numbered
-begins_listed c n w = elim (cases_Bool (is_in n w.listed)) [
-  | inl is ↦ rw is (begins_same w.numbered)
-  | inr new ↦ rw new (begins_new w.numbered (output_wires (slice_get c.nodes n)))
+-- what the walk v lists and numbers stands at the same places in w
+pub record Extends (v w : Walk) : Type 0 where
+  pub listed : Begins v.listed w.listed
+  pub numbered : Begins v.numbered w.numbered
+
+extends_same : (w : Walk) → Extends w w
+extends_same w = record { listed = begins_same w.listed; numbered = begins_same w.numbered }
+
+extends_then : (u v w : Walk) → Extends u v → Extends v w → Extends u w
+extends_then u v w a b = record {
+  listed = begins_then u.listed v.listed w.listed a.listed b.listed;
+  numbered = begins_then u.numbered v.numbered w.numbered a.numbered b.numbered;
+}
+
+extends_listed : (c : Circuit) (n : ℕ) (w : Walk) → Extends w (list_node c n w)
+extends_listed c n w = elim (cases_Bool (is_in n w.listed)) [
+  | inl is ↦ rw is (extends_same w)
+  | inr new ↦ rw new (record { listed = begins_more w.listed (n ∷ []); numbered = begins_new w.numbered (output_wires (slice_get c.nodes n)) })
 ]
 
-begins_step : (c : Circuit) (w : Walk) (a o : Option ℕ) (v : Walk) → step_at c w a o ≡ Some v → Begins w.numbered v.numbered
-begins_step c w (Some x) o v e =
-    subst (λ u. Begins w.numbered u.numbered) (same_Some _ v e) (begins_listed c (end_node (takes c) c x) (record w { visited = suc w.visited }))
-begins_step c w None (Some n) v e = subst (λ u. Begins w.numbered u.numbered) (same_Some (list_node c n w) v e) (begins_listed c n w)
-begins_step c w None None v e = absurd (none-some v e)
+extends_step : (c : Circuit) (w : Walk) (a o : Option ℕ) (v : Walk) → step_at c w a o ≡ Some v → Extends w v
+extends_step c w (Some x) o v e =
+    let on = extends_listed c (end_node (takes c) c x) (record w { visited = suc w.visited }) in
+    subst (λ u. Extends w u) (same_Some _ v e) (record { listed = on.listed; numbered = on.numbered })
+extends_step c w None (Some n) v e = subst (λ u. Extends w u) (same_Some (list_node c n w) v e) (extends_listed c n w)
+extends_step c w None None v e = absurd (none-some v e)
 
-begins_walked : (c : Circuit) (k : ℕ) (w : Walk) → Begins w.numbered (walked c k w).numbered
+pub extends_walked : (c : Circuit) (k : ℕ) (w : Walk) → Extends w (walked c k w)
 unfolding walked
-begins_walked c zero w = begins_same w.numbered
-begins_walked c (suc k) w = at (step c w) refl (λ v. begins_walked c k v)
+extends_walked c zero w = extends_same w
+extends_walked c (suc k) w = at (walk_step c w) refl (λ v. extends_walked c k v)
   where
-    at : (o : Option Walk) → step c w ≡ o → ((v : Walk) → Begins v.numbered (walked c k v).numbered) → Begins w.numbered (goes_on w (walked c k) o).numbered
-    at None e f = begins_same w.numbered
-    at (Some v) e f =
-        begins_then w.numbered v.numbered (walked c k v).numbered
-        (begins_step c w (slice_get w.numbered w.visited) (next_left c w.listed) v e) (f v)
+    at : (o : Option Walk) → walk_step c w ≡ o → ((v : Walk) → Extends v (walked c k v)) → Extends w (goes_on w (walked c k) o)
+    at None e f = extends_same w
+    at (Some v) e f = extends_then w v (walked c k v) (extends_step c w (slice_get w.numbered w.visited) (next_left c w.listed) v e) (f v)
 
 -- ---- a list without repetition is numbered as it is
 
@@ -105,7 +121,7 @@ end_mapped : (f : ℕ → ℕ) (o : Option Node) (p : ℕ) → p < length (ends_
 end_mapped f None p h = absurd (omega arith)
 end_mapped f (Some x) p h = end_moved f x.ends p h
 
-module _ (c : Circuit) (fit : AllByRecursion (Fits c.wires) c.nodes) (closed : IsClosed c) (some : 0 < length c.nodes)
+module _ (c : Circuit) (fit : AllByRecursion (IsWired c.wires) c.nodes) (closed : IsClosed c) (some : 0 < length c.nodes)
     (through : (w : ℕ) → w < c.wires → IsThrough c w → ⊥) where
   abbrev outer : List ℕ
   outer = ends_at (slice_get c.nodes 0)
@@ -113,7 +129,7 @@ module _ (c : Circuit) (fit : AllByRecursion (Fits c.wires) c.nodes) (closed : I
   outer_sized : length outer ≡ length (directions c 0)
   outer_sized =
       let (x, e) = node_at c.nodes 0 some in
-      let fits = all_nodes (Fits c.wires) c.nodes 0 x fit e in
+      let fits = all_nodes (IsWired c.wires) c.nodes 0 x fit e in
       ap (λ o. length (ends_at o)) e ∙ fits.sized ∙ sym (same_ports 0 x) ∙ ap (λ o. length (directions_at 0 o)) (sym e)
 
   outer_takes : (p : ℕ) → p < length (directions c 0) → gives c 0 p ≡ false → takes c 0 p ≡ true
@@ -144,7 +160,7 @@ module _ (c : Circuit) (fit : AllByRecursion (Fits c.wires) c.nodes) (closed : I
   begun_as = new_distinct [] outer outer_once
 
   begins : Begins (with_new [] outer) (walk_of c).numbered
-  begins = begins_walked c (c.wires + length c.nodes) (record { listed = 0 ∷ []; numbered = with_new [] outer; visited = 0 })
+  begins = (extends_walked c (c.wires + length c.nodes) (record { listed = 0 ∷ []; numbered = with_new [] outer; visited = 0 })).numbered
 
   abbrev number : ℕ → ℕ
   number w = position_or_len (nat_eq w) (walk_of c).numbered

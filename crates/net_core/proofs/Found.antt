@@ -9,7 +9,7 @@ use Rattle.std.proofs.lemmas.List.FromFn.{get_or-range_with_len, length-range_wi
 use Rattle.std.proofs.lemmas.List.Sums.{position_or_len_is, passes_at_first, fails_before_first}
 use Rattle.std.proofs.lemmas.Option.{slice_get_within}
 use Rattle.net_core.specs.Specs.{outs_of}
-use Rattle.net_core.specs.Wiring.{Node, Circuit, Fits, IsClosed}
+use Rattle.net_core.specs.Wiring.{Node, Circuit, IsWired, IsClosed}
 use Rattle.net_core.specs.Networks.{directions_at, directions, gives, takes, end_of, end_at, has_end, end_node, end_port, Once}
 use Rattle.net_core.proofs.Counting.{all_at}
 use Rattle.net_core.proofs.Ends.{side_of, later_same, closed_by_ends}
@@ -18,7 +18,7 @@ pub ranged : (n k : ℕ) → k < n → get_or (range_with_len 0 n) k 0 ≡ k
 ranged n k h = get_or-range_with_len 0 n k 0 h ∙ omega arith
 
 -- the first number below n that passes
-first_is : (test : ℕ → Bool) (n i : ℕ) → i < n → test i ≡ true → ((k : ℕ) → k < n → test k ≡ true → k ≡ i) → position_or_len test (range_with_len 0 n) ≡ i
+pub first_is : (test : ℕ → Bool) (n i : ℕ) → i < n → test i ≡ true → ((k : ℕ) → k < n → test k ≡ true → k ≡ i) → position_or_len test (range_with_len 0 n) ≡ i
 first_is test n i h passes only =
     position_or_len_is test (range_with_len 0 n) i 0 (omega (arith, length-range_with_len 0 n))
     (λ k lt. let e : get_or (range_with_len 0 n) k 0 ≡ k = ranged n k (omega arith) in ap test e ∙ fails k (omega arith) (λ same. omega arith))
@@ -131,14 +131,14 @@ port_within true xs n p None e h = absurd (false≢true h)
 port_within false xs n p None e h = absurd (false≢true h)
 port_within b xs n p (Some x) e h = let l = side_within b (directions_at n (Some x)) p h in let same = same_ports n x in (x, e, omega arith)
 
-known_at : (k : ℕ) (xs : List Node) (n p : ℕ) (o : Option Node) → AllByRecursion (Fits k) xs → slice_get xs n ≡ o → p < length (directions_at n o) → end_of o p < k
+known_at : (k : ℕ) (xs : List Node) (n p : ℕ) (o : Option Node) → AllByRecursion (IsWired k) xs → slice_get xs n ≡ o → p < length (directions_at n o) → end_of o p < k
 known_at k xs n p None all e h = absurd (omega arith)
 known_at k xs n p (Some x) all e h =
-    let fits : Fits k x = all_nodes (Fits k) xs n x all e in
+    let fits : IsWired k x = all_nodes (IsWired k) xs n x all e in
     all_at (λ w. w < k) x.ends p fits.known (omega (arith, fits.sized, same_ports n x))
 
 -- the wire at a port of a node that is there is known
-pub known_end : (c : Circuit) → AllByRecursion (Fits c.wires) c.nodes → (n p : ℕ) → p < length (directions c n) → end_at c n p < c.wires
+pub known_end : (c : Circuit) → AllByRecursion (IsWired c.wires) c.nodes → (n p : ℕ) → p < length (directions c n) → end_at c n p < c.wires
 known_end c fit n p h = known_at c.wires c.nodes n p (slice_get c.nodes n) fit refl h
 
 -- Of the ports in f, each is found from its wire, and each wire has one.
@@ -150,7 +150,7 @@ pub record Located (f : ℕ → ℕ → Bool) (c : Circuit) : Type 0 where
   pub real : (w : ℕ) → w < c.wires → f (end_node f c w) (end_port f c w) ≡ true
   pub back : (w : ℕ) → w < c.wires → end_at c (end_node f c w) (end_port f c w) ≡ w
 
-pub locate : (f : ℕ → ℕ → Bool) (c : Circuit) → IsThere f c → AllByRecursion (Fits c.wires) c.nodes → ((w : ℕ) → w < c.wires → Once f c w) → Located f c
+pub locate : (f : ℕ → ℕ → Bool) (c : Circuit) → IsThere f c → AllByRecursion (IsWired c.wires) c.nodes → ((w : ℕ) → w < c.wires → Once f c w) → Located f c
 locate f c there fit once = record {
   there = there;
   known = known;
@@ -177,10 +177,10 @@ locate f c there fit once = record {
         let y : end_port f c w ≡ p = port_found f c there w n p is at one in
         (ap (λ m. f m (end_port f c w)) x ∙ ap (f n) y ∙ is, ap (λ m. end_at c m (end_port f c w)) x ∙ ap (end_at c n) y ∙ at)
 
-pub gives_located : (c : Circuit) → AllByRecursion (Fits c.wires) c.nodes → IsClosed c → Located (gives c) c
+pub gives_located : (c : Circuit) → AllByRecursion (IsWired c.wires) c.nodes → IsClosed c → Located (gives c) c
 gives_located c fit closed = locate (gives c) c (gives_there c) fit (λ w h. (closed_by_ends c fit closed w h).0)
 
-pub takes_located : (c : Circuit) → AllByRecursion (Fits c.wires) c.nodes → IsClosed c → Located (takes c) c
+pub takes_located : (c : Circuit) → AllByRecursion (IsWired c.wires) c.nodes → IsClosed c → Located (takes c) c
 takes_located c fit closed = locate (takes c) c (takes_there c) fit (λ w h. (closed_by_ends c fit closed w h).1)
 
 -- the same where the wire is known by its number

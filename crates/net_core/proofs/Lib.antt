@@ -16,6 +16,7 @@ pub mod RoundsNets
 pub mod Meets
 pub mod Renumbered
 pub mod Moved
+pub mod Components
 pub mod Reordered
 pub mod InPlace
 pub mod Sizes
@@ -29,3 +30,4 @@ pub mod Listings
 pub mod WalkSteps
 pub mod WalkStates
 pub mod FirstWires
+pub mod WalkAgain

@@ -1,5 +1,5 @@
 -- Nodes with other numbers for their wires.
-use Rattle.std.proofs.Common.{◌≡◌, ℕ, suc, ◌<◌, List, [], ◌∷◌, map, length, get_or, Option, None, Some, refl}
+use Rattle.std.proofs.Common.{◌≡◌, ℕ, zero, suc, ◌<◌, arith, List, [], ◌∷◌, map, length, get_or, Option, None, Some, refl}
 use Rattle.std.specs.Prelude.{slice_get, option_map, nat_eq}
 use Rattle.std.specs.List.{AllByRecursion}
 use Rattle.std.proofs.lemmas.List.{get_or-map}
@@ -29,3 +29,9 @@ pub all_moved : (f : ℕ → ℕ) (xs : List ℕ) (j k : ℕ) → ((w : ℕ) →
     → AllByRecursion (λ w. w < k) (map f xs)
 all_moved f [] j k h all = tt
 all_moved f (x ∷ xs) j k h all = (h x all.0, all_moved f xs j k h all.1)
+
+-- a number below the length is that of a node
+pub node_at : (xs : List Node) (n : ℕ) → n < length xs → (x : Node) × (slice_get xs n ≡ Some x)
+node_at [] n h = absurd (omega arith)
+node_at (x ∷ xs) zero h = (x, refl)
+node_at (x ∷ xs) (suc n) h = node_at xs n (omega arith)

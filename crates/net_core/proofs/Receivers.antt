@@ -7,7 +7,7 @@ use Rattle.std.proofs.lemmas.Bool.{cases_eq, false≢true}
 use Rattle.std.proofs.lemmas.List.{get_or_default, get_or-map}
 use Rattle.std.proofs.lemmas.Option.{same_Some}
 use Rattle.net_core.specs.Specs.{outs_of}
-use Rattle.net_core.specs.Wiring.{Node, Circuit, Fits, IsClosed}
+use Rattle.net_core.specs.Wiring.{Node, Circuit, IsWired, IsClosed}
 use Rattle.net_core.specs.Networks.{directions_at, takes, end_of, end_at, end_node, end_port}
 use Rattle.net_core.specs.Walking.{AreReceivers, AreWritten}
 use Rattle.net_core.proofs.Ends.{later_same}
@@ -132,7 +132,7 @@ spec_input : (n p : ℕ) (x : Node) → p < length (outs_of x.spec) → get_or (
 spec_input zero p x h e = ap not (get_or-map not (outs_of x.spec) p false true h ∙ ap not e)
 spec_input (suc m) p x h e = ap (λ ds. not (get_or ds p true)) (later_same m (Some x)) ∙ ap not (sym (get_or_default (outs_of x.spec) p false true h) ∙ e ∙ later_number m)
 
-module _ (c : Circuit) (fit : AllByRecursion (Fits c.wires) c.nodes) (closed : IsClosed c) where
+module _ (c : Circuit) (fit : AllByRecursion (IsWired c.wires) c.nodes) (closed : IsClosed c) where
   pub received_none : (table : List ℕ) → length table ≡ c.wires → Received c table 0
   received_none table sized = record { sized = sized; each = λ n p h. absurd (omega arith) }
 
@@ -144,8 +144,8 @@ module _ (c : Circuit) (fit : AllByRecursion (Fits c.wires) c.nodes) (closed : I
     each = each;
   }
     where
-      fits : Fits c.wires x
-      fits = all_nodes (Fits c.wires) c.nodes i x fit here
+      fits : IsWired c.wires x
+      fits = all_nodes (IsWired c.wires) c.nodes i x fit here
 
       each : (n p : ℕ) → n < i + 1 → takes c n p ≡ true → get_or new (end_at c n p) 0 ≡ n
       each n p l t = elim (cases_eq n i) [

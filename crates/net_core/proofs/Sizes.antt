@@ -14,7 +14,7 @@ use Rattle.basic_kinds.specs.Kinds.{inputs_of, outputs_of, IsWellFormed}
 use Rattle.net_core.specs.declared.spec.NodeSpec.{NodeSpec}
 use Rattle.net_core.specs.declared.spec.NodeSpec.TheVariants as spec
 use Rattle.net_core.specs.Specs.{outs_of, IsFormed, sides, gives_symbol}
-use Rattle.net_core.specs.Wiring.{Node, Circuit, Fits, IsClosed, count, picked, side, flows, wiring, driven, taken}
+use Rattle.net_core.specs.Wiring.{Node, Circuit, IsWired, IsClosed, count, picked, side, flows, wiring, driven, received}
 use Rattle.net_core.proofs.Counting.{count_nil, count_same, count_other, picked_all}
 use Rattle.net_core.proofs.Totals.{total, total_none, total_one, total_same}
 
@@ -38,25 +38,25 @@ pub all_append : (P : ℕ → Type 0) (xs ys : List ℕ) → AllByRecursion P xs
 all_append P [] ys a b = b
 all_append P (x ∷ xs) ys a b = (a.0, all_append P xs ys a.1 b)
 
-flows_known : (n : ℕ) (b : Bool) (xs : List Node) → AllByRecursion (Fits n) xs → AllByRecursion (λ w. w < n) (flows b xs)
+flows_known : (n : ℕ) (b : Bool) (xs : List Node) → AllByRecursion (IsWired n) xs → AllByRecursion (λ w. w < n) (flows b xs)
 unfolding flows
 flows_known n b [] all = tt
 flows_known n b (x ∷ xs) all =
-    let fits : Fits n x = all.0 in
+    let fits : IsWired n x = all.0 in
     all_append (λ w. w < n) (side b x) (flows b xs) (picked_all (λ w. w < n) b (outs_of x.spec) x.ends fits.known) (flows_known n b xs all.1)
 
-wiring_known : (n : ℕ) (b : Bool) (xs : List Node) → AllByRecursion (Fits n) xs → AllByRecursion (λ w. w < n) (wiring b xs)
+wiring_known : (n : ℕ) (b : Bool) (xs : List Node) → AllByRecursion (IsWired n) xs → AllByRecursion (λ w. w < n) (wiring b xs)
 unfolding wiring
 wiring_known n b [] all = tt
 wiring_known n b (x ∷ xs) all =
-    let fits : Fits n x = all.0 in
+    let fits : IsWired n x = all.0 in
     all_append (λ w. w < n) (side (not b) x) (flows b xs) (picked_all (λ w. w < n) (not b) (outs_of x.spec) x.ends fits.known) (flows_known n b xs all.1)
 
-pub driven_many : (c : Circuit) → AllByRecursion (Fits c.wires) c.nodes → IsClosed c → length (driven c) ≡ c.wires
+pub driven_many : (c : Circuit) → AllByRecursion (IsWired c.wires) c.nodes → IsClosed c → length (driven c) ≡ c.wires
 driven_many c fit closed = each_once c.wires (driven c) (wiring_known c.wires true c.nodes fit) (λ w h. (closed w h).0)
 
-pub taken_many : (c : Circuit) → AllByRecursion (Fits c.wires) c.nodes → IsClosed c → length (taken c) ≡ c.wires
-taken_many c fit closed = each_once c.wires (taken c) (wiring_known c.wires false c.nodes fit) (λ w h. (closed w h).1)
+pub received_many : (c : Circuit) → AllByRecursion (IsWired c.wires) c.nodes → IsClosed c → length (received c) ≡ c.wires
+received_many c fit closed = each_once c.wires (received c) (wiring_known c.wires false c.nodes fit) (λ w h. (closed w h).1)
 
 -- ---- each node has a port
 
@@ -127,19 +127,19 @@ picked_both true (false ∷ ds) (w ∷ ws) e = let more = picked_both true ds ws
 picked_both false (true ∷ ds) (w ∷ ws) e = let more = picked_both false ds ws (omega arith) in omega arith
 picked_both false (false ∷ ds) (w ∷ ws) e = let more = picked_both false ds ws (omega arith) in omega arith
 
-node_ports : (n : ℕ) (b : Bool) (x : Node) → Fits n x → 0 < length (side b x) + length (side (not b) x)
+node_ports : (n : ℕ) (b : Bool) (x : Node) → IsWired n x → 0 < length (side b x) + length (side (not b) x)
 node_ports n b x fits = let sized = fits.sized in omega (arith, picked_both b (outs_of x.spec) x.ends fits.sized, spec_ports x.spec fits.formed)
 
-flows_many : (n : ℕ) (xs : List Node) → AllByRecursion (Fits n) xs → length xs ≤ length (flows true xs) + length (flows false xs)
+flows_many : (n : ℕ) (xs : List Node) → AllByRecursion (IsWired n) xs → length xs ≤ length (flows true xs) + length (flows false xs)
 unfolding flows
 flows_many n [] all = omega arith
 flows_many n (x ∷ xs) all = omega (arith, flows_many n xs all.1, node_ports n true x all.0, length-append (side true x) (flows true xs), length-append (side false x) (flows false xs))
 
-wiring_many : (n : ℕ) (xs : List Node) → AllByRecursion (Fits n) xs → length xs ≤ length (wiring true xs) + length (wiring false xs)
+wiring_many : (n : ℕ) (xs : List Node) → AllByRecursion (IsWired n) xs → length xs ≤ length (wiring true xs) + length (wiring false xs)
 unfolding wiring
 wiring_many n [] all = omega arith
 wiring_many n (x ∷ xs) all = omega (arith, flows_many n xs all.1, node_ports n false x all.0, length-append (side false x) (flows true xs), length-append (side true x) (flows false xs))
 
 -- so there are at most two nodes a wire
-pub nodes_few : (c : Circuit) → AllByRecursion (Fits c.wires) c.nodes → IsClosed c → length c.nodes ≤ c.wires + c.wires
-nodes_few c fit closed = omega (arith, wiring_many c.wires c.nodes fit, driven_many c fit closed, taken_many c fit closed)
+pub nodes_few : (c : Circuit) → AllByRecursion (IsWired c.wires) c.nodes → IsClosed c → length c.nodes ≤ c.wires + c.wires
+nodes_few c fit closed = omega (arith, wiring_many c.wires c.nodes fit, driven_many c fit closed, received_many c fit closed)

@@ -50,14 +50,21 @@ total_at (suc k) u i x h = elim (cases_lt i k) [
   | inr y ↦ let e : i ≡ k = omega arith in omega (arith, ap u e, total_none k u (λ j z. h j (omega arith) (λ c. omega arith)))
 ]
 
--- one part is one more
-pub total_one : (k : ℕ) (u v : ℕ → ℕ) (i : ℕ) → i < k → v i ≡ suc (u i) → ((j : ℕ) → j < k → (j ≡ i → ⊥) → v j ≡ u j) → total k v ≡ suc (total k u)
+-- one part is more, and the sum is as much more
+pub total_more : (k : ℕ) (u v : ℕ → ℕ) (i a : ℕ) → i < k → v i ≡ u i + a → ((j : ℕ) → j < k → (j ≡ i → ⊥) → v j ≡ u j)
+    → total k v ≡ total k u + a
 unfolding total
-total_one zero u v i x e h = absurd (omega arith)
-total_one (suc k) u v i x e h = elim (cases_lt i k) [
-  | inl y ↦ omega (arith, h k (omega arith) (λ c. omega arith), total_one k u v i y e (λ j z. h j (omega arith)))
-  | inr y ↦ let c : i ≡ k = omega arith in omega (arith, e, ap u c, ap v c, total_same k v u (λ j z. h j (omega arith) (λ d. omega arith)))
+total_more zero u v i a x e h = absurd (omega arith)
+total_more (suc k) u v i a x e h = elim (cases_lt i k) [
+  | inl y ↦ omega (arith, h k (omega arith) (λ c. omega arith), total_more k u v i a y e (λ j z. h j (omega arith)))
+  | inr y ↦
+      let c : i ≡ k = omega arith in
+      omega (arith, e, ap u c, ap v c, total_same k v u (λ j z. h j (omega arith) (λ d. omega arith)))
 ]
+
+pub total_one : (k : ℕ) (u v : ℕ → ℕ) (i : ℕ) → i < k → v i ≡ suc (u i) → ((j : ℕ) → j < k → (j ≡ i → ⊥) → v j ≡ u j)
+    → total k v ≡ suc (total k u)
+total_one k u v i x e h = omega (arith, total_more k u v i 1 x (omega (arith, e)) h)
 
 -- the gap at one part is at most the gap of the sums
 pub total_gap : (k : ℕ) (u v : ℕ → ℕ) → ((i : ℕ) → i < k → u i ≤ v i) → (i : ℕ) → i < k → total k u + v i ≤ total k v + u i

@@ -3,9 +3,9 @@ use Rattle.std.proofs.Common.{◌≡◌, ℕ, suc, ◌+◌, ◌<◌, true, false
 use Rattle.std.specs.Prelude.{slice_get, Result, Ok, Err, OnOk}
 use Rattle.std.specs.List.{AllByRecursion}
 use Rattle.net_core.specs.declared.walk.WalkState.{WalkState}
-use Rattle.net_core.specs.Wiring.{Circuit, Fits, IsClosed}
+use Rattle.net_core.specs.Wiring.{Circuit, IsWired, IsClosed}
 use Rattle.net_core.specs.Networks.{takes, end_node}
-use Rattle.net_core.specs.Walk.{Walk, is_in, with_new, output_wires, list_node, step, outset, walk_of}
+use Rattle.net_core.specs.Walk.{Walk, is_in, with_new, output_wires, list_node, walk_step, outset, walk_of}
 use Rattle.net_core.specs.Walking.{AreReceivers, Leads, IsVisited, AreSourcesListed}
 use Rattle.net_core.specs.WalkStates.{walk_in, IsSized, Walks}
 use Rattle.net_core.proofs.Counting.{all_at}
@@ -31,7 +31,7 @@ begins_walk c s sized e = record { sized = sized; comes = subst (Leads c (outset
 pub goes_to : (c : Circuit) (s t : WalkState) → Walks c s → IsSized c t → Leads c (walk_in s) (walk_in t) → Walks c t
 goes_to c s t walks sized on = record { sized = sized; comes = leads_then c (outset c) (walk_in s) (walk_in t) walks.comes on }
 
-module _ (c : Circuit) (fit : AllByRecursion (Fits c.wires) c.nodes) (closed : IsClosed c) (some : 0 < length c.nodes) where
+module _ (c : Circuit) (fit : AllByRecursion (IsWired c.wires) c.nodes) (closed : IsClosed c) (some : 0 < length c.nodes) where
   holds : (s : WalkState) → Walks c s → Holds c (walk_in s)
   holds s walks = leads_holds c fit closed some (walk_in s) walks.comes
 
@@ -50,7 +50,7 @@ module _ (c : Circuit) (fit : AllByRecursion (Fits c.wires) c.nodes) (closed : I
 
     pub visit_step : (rs : List ℕ) → AreReceivers c rs → (t : Walk)
         → t ≡ list_node c (get_or rs (get_or ns s.visited 0) 0) (record { listed = s.listed.numbers; numbered = s.numbered.numbers; visited = s.visited + 1 })
-        → step c (walk_in s) ≡ Some t
+        → walk_step c (walk_in s) ≡ Some t
     visit_step rs told t e =
         let one : suc s.visited ≡ s.visited + 1 = omega arith in
         let same : end_node (takes c) c (get_or s.numbered.numbers s.visited 0) ≡ get_or rs (get_or ns s.visited 0) 0 =

@@ -7,9 +7,9 @@ use Rattle.std.proofs.lemmas.List.FromFn.{length-range_with_len}
 use Rattle.std.proofs.lemmas.List.Folds.{list_any-append}
 use Rattle.std.proofs.lemmas.List.Sums.{position_or_len_is}
 use Rattle.std.proofs.lemmas.Option.{none-some, same_Some, slice_get-get_or, slice_get_past}
-use Rattle.net_core.specs.Wiring.{Circuit, Fits, IsClosed}
+use Rattle.net_core.specs.Wiring.{Circuit, IsWired, IsClosed}
 use Rattle.net_core.specs.Networks.{takes, end_node}
-use Rattle.net_core.specs.Walk.{Walk, is_in, list_node, source_at, or_else, next_left, step_at, step, goes_on, walked, outset, walk_of}
+use Rattle.net_core.specs.Walk.{Walk, is_in, list_node, source_at, or_else, next_left, step_at, walk_step, goes_on, walked, outset, walk_of}
 use Rattle.net_core.specs.Walking.{Leads, IsVisited}
 use Rattle.net_core.proofs.Found.{ranged}
 use Rattle.net_core.proofs.Listings.{is_in_last}
@@ -70,13 +70,13 @@ module _ (c : Circuit) (ns : List ℕ) where
 
 module _ (c : Circuit) (w : Walk) where
   pub step_visits : w.visited < length w.numbered
-      → step c w ≡ Some (list_node c (end_node (takes c) c (get_or w.numbered w.visited 0)) (record w { visited = suc w.visited }))
+      → walk_step c w ≡ Some (list_node c (end_node (takes c) c (get_or w.numbered w.visited 0)) (record w { visited = suc w.visited }))
   step_visits h = ap (λ a. step_at c w a (next_left c w.listed)) (slice_get-get_or w.numbered w.visited 0 h)
 
-  pub step_lists : (n : ℕ) → IsVisited w → next_left c w.listed ≡ Some n → step c w ≡ Some (list_node c n w)
+  pub step_lists : (n : ℕ) → IsVisited w → next_left c w.listed ≡ Some n → walk_step c w ≡ Some (list_node c n w)
   step_lists n past e = ap (λ a. step_at c w a (next_left c w.listed)) (slice_get_past w.numbered w.visited past) ∙ ap (step_at c w None) e
 
-  pub step_none : IsVisited w → next_left c w.listed ≡ None → step c w ≡ None
+  pub step_none : IsVisited w → next_left c w.listed ≡ None → walk_step c w ≡ None
   step_none past e = ap (λ a. step_at c w a (next_left c w.listed)) (slice_get_past w.numbered w.visited past) ∙ ap (step_at c w None) e
 
 pub listed_already : (c : Circuit) (n : ℕ) (w : Walk) → is_in n w.listed ≡ true → list_node c n w ≡ w
@@ -108,24 +108,24 @@ step_stays c m w None None v e is = absurd (none-some v e)
 
 -- ---- many steps
 
-walked_stays : (c : Circuit) (w : Walk) → step c w ≡ None → (k : ℕ) → walked c k w ≡ w
+pub walked_stays : (c : Circuit) (w : Walk) → walk_step c w ≡ None → (k : ℕ) → walked c k w ≡ w
 unfolding walked
 walked_stays c w e zero = refl
 walked_stays c w e (suc k) = ap (goes_on w (walked c k)) e
 
-walked_first : (c : Circuit) (w v : Walk) → step c w ≡ Some v → (k : ℕ) → walked c (suc k) w ≡ walked c k v
+pub walked_first : (c : Circuit) (w v : Walk) → walk_step c w ≡ Some v → (k : ℕ) → walked c (suc k) w ≡ walked c k v
 unfolding walked
 walked_first c w v e k = ap (goes_on w (walked c k)) e
 
-walked_none : (c : Circuit) (w : Walk) → walked c zero w ≡ w
+pub walked_none : (c : Circuit) (w : Walk) → walked c zero w ≡ w
 unfolding walked
 walked_none c w = refl
 
 walked_more : (c : Circuit) (j k : ℕ) (w : Walk) → walked c (j + k) w ≡ walked c k (walked c j w)
 walked_more c zero k w = ap (λ n. walked c n w) (zero-add k) ∙ sym (ap (walked c k) (walked_none c w))
-walked_more c (suc j) k w = at (step c w) refl (λ v. walked_more c j k v)
+walked_more c (suc j) k w = at (walk_step c w) refl (λ v. walked_more c j k v)
   where
-    at : (o : Option Walk) → step c w ≡ o → ((v : Walk) → walked c (j + k) v ≡ walked c k (walked c j v)) → walked c (suc j + k) w ≡ walked c k (walked c (suc j) w)
+    at : (o : Option Walk) → walk_step c w ≡ o → ((v : Walk) → walked c (j + k) v ≡ walked c k (walked c j v)) → walked c (suc j + k) w ≡ walked c k (walked c (suc j) w)
     at None e f = walked_stays c w e (suc j + k) ∙ sym (ap (walked c k) (walked_stays c w e (suc j)) ∙ walked_stays c w e k)
     at (Some v) e f =
         ap (λ n. walked c n w) (let z : suc j + k ≡ suc (j + k) = omega arith in z) ∙ walked_first c w v e (j + k) ∙ f v
@@ -135,7 +135,7 @@ module _ (c : Circuit) where
   pub leads_same : (w : Walk) → Leads c w w
   leads_same w = (zero, sym (walked_none c w))
 
-  pub leads_step : (v w : Walk) → step c v ≡ Some w → Leads c v w
+  pub leads_step : (v w : Walk) → walk_step c v ≡ Some w → Leads c v w
   leads_step v w e = (suc zero, sym (walked_first c v w e zero ∙ walked_none c w))
 
   pub leads_then : (u v w : Walk) → Leads c u v → Leads c v w → Leads c u w
@@ -143,9 +143,9 @@ module _ (c : Circuit) where
 
   walked_keeps : (m k : ℕ) (w : Walk) → is_in m w.listed ≡ true → is_in m (walked c k w).listed ≡ true
   walked_keeps m zero w is = ap (λ (v : Walk). is_in m v.listed) (walked_none c w) ∙ is
-  walked_keeps m (suc k) w is = at (step c w) refl (λ v h. walked_keeps m k v h)
+  walked_keeps m (suc k) w is = at (walk_step c w) refl (λ v h. walked_keeps m k v h)
     where
-      at : (o : Option Walk) → step c w ≡ o → ((v : Walk) → is_in m v.listed ≡ true → is_in m (walked c k v).listed ≡ true) → is_in m (walked c (suc k) w).listed ≡ true
+      at : (o : Option Walk) → walk_step c w ≡ o → ((v : Walk) → is_in m v.listed ≡ true → is_in m (walked c k v).listed ≡ true) → is_in m (walked c (suc k) w).listed ≡ true
       at None e f = ap (λ (v : Walk). is_in m v.listed) (walked_stays c w e (suc k)) ∙ is
       at (Some v) e f = ap (λ (v : Walk). is_in m v.listed) (walked_first c w v e k)
           ∙ f v (step_stays c m w (slice_get w.numbered w.visited) (next_left c w.listed) v e is)
@@ -160,12 +160,12 @@ module _ (c : Circuit) where
     | inr new ↦ leads_step w (list_node c n w) (step_lists c w n past (next new))
   ]
 
-  module _ (fit : AllByRecursion (Fits c.wires) c.nodes) (closed : IsClosed c) where
+  module _ (fit : AllByRecursion (IsWired c.wires) c.nodes) (closed : IsClosed c) where
     walked_holds : (k : ℕ) (w : Walk) → Holds c w → Holds c (walked c k w)
     walked_holds zero w h = subst (Holds c) (sym (walked_none c w)) h
-    walked_holds (suc k) w h = at (step c w) refl (λ v holds. walked_holds k v holds)
+    walked_holds (suc k) w h = at (walk_step c w) refl (λ v holds. walked_holds k v holds)
       where
-        at : (o : Option Walk) → step c w ≡ o → ((v : Walk) → Holds c v → Holds c (walked c k v)) → Holds c (walked c (suc k) w)
+        at : (o : Option Walk) → walk_step c w ≡ o → ((v : Walk) → Holds c v → Holds c (walked c k v)) → Holds c (walked c (suc k) w)
         at None e f = subst (Holds c) (sym (walked_stays c w e (suc k))) h
         at (Some v) e f = subst (Holds c) (sym (walked_first c w v e k))
             (f v (steps c fit closed w h (slice_get w.numbered w.visited) refl (next_left c w.listed) refl v e).0)
@@ -174,7 +174,7 @@ module _ (c : Circuit) where
     leads_holds some w a = subst (Holds c) (sym a.1) (walked_holds a.0 (outset c) (begun c fit closed some))
 
     -- a walk that can go no further is the whole walk
-    pub leads_end : 0 < length c.nodes → (w : Walk) → Leads c (outset c) w → step c w ≡ None → w ≡ walk_of c
+    pub leads_end : 0 < length c.nodes → (w : Walk) → Leads c (outset c) w → walk_step c w ≡ None → w ≡ walk_of c
     leads_end some w a e =
         let N = c.wires + length c.nodes in
         let same : a.0 + N ≡ N + a.0 = omega arith in

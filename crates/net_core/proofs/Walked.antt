@@ -7,9 +7,9 @@ use Rattle.std.proofs.lemmas.List.Quantifiers.{position-Some}
 use Rattle.std.proofs.lemmas.List.FromFn.{length-range_with_len, get_or-range_with_len}
 use Rattle.std.proofs.lemmas.Option.{none-some, same_Some, get_or_from_slice_get, slice_get_within}
 use Rattle.net_core.specs.Specs.{outs_of}
-use Rattle.net_core.specs.Wiring.{Node, Circuit, Fits, IsClosed, count, picked}
+use Rattle.net_core.specs.Wiring.{Node, Circuit, IsWired, IsClosed, count, picked}
 use Rattle.net_core.specs.Networks.{directions_at, gives, takes, end_of, end_at, end_node}
-use Rattle.net_core.specs.Walk.{Walk, is_in, with_new, output_wires, list_node, source_at, or_else, next_left, step_at, step, goes_on, walked, ends_at, outset, walk_of}
+use Rattle.net_core.specs.Walk.{Walk, is_in, with_new, output_wires, list_node, source_at, or_else, next_left, step_at, walk_step, goes_on, walked, ends_at, outset, walk_of}
 use Rattle.net_core.proofs.Counting.{count_nil, count_same, count_other, picked_all, all_at}
 use Rattle.net_core.proofs.Ends.{later_same}
 use Rattle.net_core.proofs.Found.{first_below, port_within, all_nodes, takes_located}
@@ -29,11 +29,6 @@ picked_at (true ∷ ds) (w ∷ ws) (suc p) e h =
     omega (arith, picked_at ds ws p e l, count_more (get_or ws p 0) w (picked true ds ws))
 picked_at (false ∷ ds) (w ∷ ws) (suc p) e h = picked_at ds ws p e (omega arith)
 
-pub node_at : (xs : List Node) (n : ℕ) → n < length xs → (x : Node) × (slice_get xs n ≡ Some x)
-node_at [] n h = absurd (omega arith)
-node_at (x ∷ xs) zero h = (x, refl)
-node_at (x ∷ xs) (suc n) h = node_at xs n (omega arith)
-
 -- a number that is left and passes
 least_passes : (test : ℕ → Bool) (n k : ℕ) → position test (range_with_len 0 n) ≡ Some k → (k < n) × (test k ≡ true)
 least_passes test n k e =
@@ -51,8 +46,8 @@ none_passes test n k e h = elim (cases_Bool (test k)) [
   | inr it ↦ it
 ]
 
-or_else_some : (a b : Option ℕ) (n : ℕ) (P : Type 0) → or_else a b ≡ Some n → (a ≡ Some n → P) → (b ≡ Some n → P) → P
-or_else_some None b n P e f g = g e
+or_else_some : (a b : Option ℕ) (n : ℕ) (P : Type 0) → or_else a b ≡ Some n → (a ≡ Some n → P) → (a ≡ None → b ≡ Some n → P) → P
+or_else_some None b n P e f g = g refl e
 or_else_some (Some m) b n P e f g = f e
 
 or_else_none : (a b : Option ℕ) → or_else a b ≡ None → b ≡ None
@@ -67,15 +62,26 @@ not_false : (b : Bool) → not b ≡ false → b ≡ true
 not_false true e = refl
 not_false false e = absurd (false≢true (sym e))
 
-left_is : (c : Circuit) (ns : List ℕ) (n : ℕ) → next_left c ns ≡ Some n → (n < length c.nodes) × (is_in n ns ≡ false)
+pub left_is : (c : Circuit) (ns : List ℕ) (n : ℕ) → next_left c ns ≡ Some n → (n < length c.nodes) × (is_in n ns ≡ false)
 left_is c ns n e =
     or_else_some (position (λ n. source_at (slice_get c.nodes n) && not (is_in n ns)) (range_with_len 0 (length c.nodes)))
     (position (λ n. not (is_in n ns)) (range_with_len 0 (length c.nodes))) n ((n < length c.nodes) × (is_in n ns ≡ false)) e
     (λ h. let r = least_passes (λ n. source_at (slice_get c.nodes n) && not (is_in n ns)) (length c.nodes) n h in
     (r.0, not_true (is_in n ns) (and_parts (source_at (slice_get c.nodes n)) (not (is_in n ns)) r.1).1))
-    (λ h. let r = least_passes (λ n. not (is_in n ns)) (length c.nodes) n h in (r.0, not_true (is_in n ns) r.1))
+    (λ none h. let r = least_passes (λ n. not (is_in n ns)) (length c.nodes) n h in (r.0, not_true (is_in n ns) r.1))
 
-none_left : (c : Circuit) (ns : List ℕ) (n : ℕ) → next_left c ns ≡ None → n < length c.nodes → is_in n ns ≡ true
+-- where the next node is no SOURCE, each SOURCE is listed
+pub left_sources : (c : Circuit) (ns : List ℕ) (n : ℕ) → next_left c ns ≡ Some n → source_at (slice_get c.nodes n) ≡ false
+    → (m : ℕ) → m < length c.nodes → source_at (slice_get c.nodes m) ≡ true → is_in m ns ≡ true
+left_sources c ns n e other m h source =
+    or_else_some (position (λ n. source_at (slice_get c.nodes n) && not (is_in n ns)) (range_with_len 0 (length c.nodes)))
+    (position (λ n. not (is_in n ns)) (range_with_len 0 (length c.nodes))) n (is_in m ns ≡ true) e
+    (λ f. let r = least_passes (λ n. source_at (slice_get c.nodes n) && not (is_in n ns)) (length c.nodes) n f in
+    absurd (false≢true (sym other ∙ (and_parts (source_at (slice_get c.nodes n)) (not (is_in n ns)) r.1).0)))
+    (λ none f. not_false (is_in m ns) (sym (ap (λ b. b && not (is_in m ns)) source)
+    ∙ none_passes (λ n. source_at (slice_get c.nodes n) && not (is_in n ns)) (length c.nodes) m none h))
+
+pub none_left : (c : Circuit) (ns : List ℕ) (n : ℕ) → next_left c ns ≡ None → n < length c.nodes → is_in n ns ≡ true
 none_left c ns n e h =
     not_false (is_in n ns) (none_passes (λ n. not (is_in n ns)) (length c.nodes) n
     (or_else_none (position (λ n. source_at (slice_get c.nodes n) && not (is_in n ns)) (range_with_len 0 (length c.nodes)))
@@ -102,22 +108,22 @@ first_append : (xs ys : List ℕ) → 0 < length xs → get_or (xs ++ ys) 0 0 �
 first_append [] ys h = absurd (omega arith)
 first_append (x ∷ xs) ys h = refl
 
-module _ (c : Circuit) (fit : AllByRecursion (Fits c.wires) c.nodes) where
+module _ (c : Circuit) (fit : AllByRecursion (IsWired c.wires) c.nodes) where
   outputs_known : (n : ℕ) (o : Option Node) → slice_get c.nodes n ≡ o → AllByRecursion (λ v. v < c.wires) (output_wires o)
   outputs_known n None e = tt
   outputs_known n (Some x) e =
-      let fits = all_nodes (Fits c.wires) c.nodes n x fit e in
+      let fits = all_nodes (IsWired c.wires) c.nodes n x fit e in
       picked_all (λ v. v < c.wires) true (outs_of x.spec) x.ends fits.known
 
   ends_known : (n : ℕ) (o : Option Node) → slice_get c.nodes n ≡ o → AllByRecursion (λ v. v < c.wires) (ends_at o)
   ends_known n None e = tt
-  ends_known n (Some x) e = let fits = all_nodes (Fits c.wires) c.nodes n x fit e in fits.known
+  ends_known n (Some x) e = let fits = all_nodes (IsWired c.wires) c.nodes n x fit e in fits.known
 
   output_among : (n p : ℕ) → n ≢ 0 → gives c n p ≡ true → 0 < count (end_at c n p) (output_wires (slice_get c.nodes n))
   output_among zero p ne g = absurd (ne refl)
   output_among (suc m) p ne g =
       let (x, e, l) = port_within true c.nodes (suc m) p (slice_get c.nodes (suc m)) refl g in
-      let fits = all_nodes (Fits c.wires) c.nodes (suc m) x fit e in
+      let fits = all_nodes (IsWired c.wires) c.nodes (suc m) x fit e in
       let sized = fits.sized in
       let is : get_or (outs_of x.spec) p false ≡ true =
       ap (λ ds. get_or ds p false) (sym (later_same m (Some x)) ∙ ap (directions_at (suc m)) (sym e)) ∙ g in
@@ -126,7 +132,7 @@ module _ (c : Circuit) (fit : AllByRecursion (Fits c.wires) c.nodes) where
   end_among : (p : ℕ) → gives c 0 p ≡ true → 0 < count (end_at c 0 p) (ends_at (slice_get c.nodes 0))
   end_among p g =
       let (x, e, l) = port_within true c.nodes 0 p (slice_get c.nodes 0) refl g in
-      let fits = all_nodes (Fits c.wires) c.nodes 0 x fit e in
+      let fits = all_nodes (IsWired c.wires) c.nodes 0 x fit e in
       let sized = fits.sized in
       subst (λ o. 0 < count (end_of o p) (ends_at o)) (sym e) (count_here x.ends p (omega arith))
 
@@ -179,7 +185,7 @@ module _ (c : Circuit) (fit : AllByRecursion (Fits c.wires) c.nodes) where
     pub receiver_there : (v : ℕ) → v < c.wires → end_node (takes c) c v < length c.nodes
     receiver_there v h = let l = takes_located c fit closed in (l.there (end_node (takes c) c v) _ (l.real v h)).0
 
-    visits : (w : Walk) (v : ℕ) → Holds c w → slice_get w.numbered w.visited ≡ Some v → Holds c (record w { visited = suc w.visited }) × (v < c.wires)
+    pub visits : (w : Walk) (v : ℕ) → Holds c w → slice_get w.numbered w.visited ≡ Some v → Holds c (record w { visited = suc w.visited }) × (v < c.wires)
     visits w v h e =
         let l = slice_get_within w.numbered w.visited v e in (
           record {
@@ -207,20 +213,20 @@ module _ (c : Circuit) (fit : AllByRecursion (Fits c.wires) c.nodes) where
     steps w h None e None f v is = absurd (none-some v is)
 
     abbrev IsEnd : Walk → Type 0
-    IsEnd w = Holds c w × (step c w ≡ None)
+    IsEnd w = Holds c w × (walk_step c w ≡ None)
 
     ends : (k : ℕ) (w : Walk) → Holds c w → c.wires + length c.nodes ≤ k + progress w → IsEnd (walked c k w)
     unfolding walked
-    ends zero w h few = at (step c w) refl
+    ends zero w h few = at (walk_step c w) refl
       where
-        at : (o : Option Walk) → step c w ≡ o → Holds c w × (step c w ≡ None)
+        at : (o : Option Walk) → walk_step c w ≡ o → Holds c w × (walk_step c w ≡ None)
         at None e = (h, e)
         at (Some v) e =
             let (holds, grows) = steps w h (slice_get w.numbered w.visited) refl (next_left c w.listed) refl v e in
             absurd (omega (arith, progress_few c v holds))
-    ends (suc k) w h few = at (step c w) refl (λ v holds more. ends k v holds more)
+    ends (suc k) w h few = at (walk_step c w) refl (λ v holds more. ends k v holds more)
       where
-        at : (o : Option Walk) → step c w ≡ o → ((v : Walk) → Holds c v → c.wires + length c.nodes ≤ k + progress v → IsEnd (walked c k v)) → IsEnd (goes_on w (walked c k) o)
+        at : (o : Option Walk) → walk_step c w ≡ o → ((v : Walk) → Holds c v → c.wires + length c.nodes ≤ k + progress v → IsEnd (walked c k v)) → IsEnd (goes_on w (walked c k) o)
         at None e f = (h, e)
         at (Some v) e f =
             let (holds, grows) = steps w h (slice_get w.numbered w.visited) refl (next_left c w.listed) refl v e in
@@ -245,7 +251,7 @@ module _ (c : Circuit) (fit : AllByRecursion (Fits c.wires) c.nodes) where
           | inr ne ↦ absurd (omega (arith, count_other n 0 [] ne, count_nil n))
         ]
 
-    pub ended : 0 < length c.nodes → Holds c (walk_of c) × (step c (walk_of c) ≡ None)
+    pub ended : 0 < length c.nodes → Holds c (walk_of c) × (walk_step c (walk_of c) ≡ None)
     ended some =
         ends (c.wires + length c.nodes) (outset c) (begun some) (omega arith)
 

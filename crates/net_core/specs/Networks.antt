@@ -4,7 +4,7 @@ use Rattle.std.specs.List.{AllByRecursion, list_any, range_with_len, position_or
 use Rattle.net_core.specs.Runs.{Fabric, Sound, Exact}
 use Rattle.net_core.specs.declared.spec.NodeSpec.{NodeSpec}
 use Rattle.net_core.specs.Specs.{outs_of, May, is_kind}
-use Rattle.net_core.specs.Wiring.{Node, Circuit, IsClosed}
+use Rattle.net_core.specs.Wiring.{Node, Circuit, IsNetwork, IsClosed}
 
 -- the directions of a node's ports in the network: node 0 has those of its specification exchanged. None where there is no node
 abbrev pub directions_at : ℕ → Option Node → List Bool
@@ -72,14 +72,16 @@ spec_of (Some x) = Some x.spec
 abbrev pub IsSpecified : Circuit → NodeSpec → Type 0
 IsSpecified c s = spec_of (slice_get c.nodes 0) ≡ Some s
 
--- In no run of the network with the environment of s is an event with a hazard enabled.
+-- The circuit is a network, and in no run of it with the environment of s is an event with a hazard enabled.
 pub record SoundFor (c : Circuit) (s : NodeSpec) : Type 0 where
+  pub network : IsNetwork c
   pub closed : IsClosed c
   pub specified : IsSpecified c s
   pub sound : Sound (fabric c)
 
 -- And each trace of s is seen by the environment in some run.
 pub record Correct (c : Circuit) (s : NodeSpec) : Type 0 where
+  pub network : IsNetwork c
   pub closed : IsClosed c
   pub specified : IsSpecified c s
   pub sound : Sound (fabric c)

@@ -4,7 +4,7 @@ use Rattle.std.specs.List.{AllByRecursion}
 use Rattle.net_core.specs.declared.spec.NodeSpec.{NodeSpec}
 use Rattle.net_core.specs.declared.net.Ends.{Ends}
 use Rattle.net_core.specs.Specs.{IsFormed}
-use Rattle.net_core.specs.Wiring.{Node, count, flows, wiring, Fits}
+use Rattle.net_core.specs.Wiring.{Node, count, flows, wiring, IsWired}
 
 abbrev pub no_ends : Ends
 no_ends = record { drivers = 0; receivers = 0 }
@@ -34,7 +34,7 @@ pub record Roomy (ends : List Ends) (many : ℕ) : Type 0 where
 -- what a network keeps
 pub record Kept (nodes : List Node) (wires : ℕ) (ends : List Ends) : Type 0 where
   pub some : 0 < length nodes
-  pub fit : AllByRecursion (Fits wires) nodes
+  pub fit : AllByRecursion (IsWired wires) nodes
   pub few : length nodes < 2 ^ 32
   pub sized : length ends ≡ wires
   pub tallied : Tallied ends (wiring true nodes) (wiring false nodes)
@@ -42,7 +42,7 @@ pub record Kept (nodes : List Node) (wires : ℕ) (ends : List Ends) : Type 0 wh
 -- what a network in the making keeps
 pub record KeptDraft (spec : NodeSpec) (parts : List Node) (wires : ℕ) (ends : List Ends) : Type 0 where
   pub formed : IsFormed spec
-  pub fit : AllByRecursion (Fits wires) parts
+  pub fit : AllByRecursion (IsWired wires) parts
   pub few : suc (length parts) < 2 ^ 32
   pub sized : length ends ≡ wires
   pub tallied : Tallied ends (flows true parts) (flows false parts)

@@ -1,5 +1,5 @@
 -- The order of a closed network: wires and components get their numbers on a walk from the environment.
-use Rattle.std.specs.Prelude.{ℕ, zero, suc, ◌+◌, Bool, true, false, not, ◌&&◌, nat_eq, if◌then◌else◌, List, [], ◌∷◌, ◌++◌, length, Option, Some, None, slice_get, position}
+use Rattle.std.specs.Prelude.{◌≡◌, ℕ, zero, suc, ◌+◌, Bool, true, false, not, ◌&&◌, nat_eq, if◌then◌else◌, List, [], ◌∷◌, ◌++◌, length, Option, Some, None, slice_get, position}
 use Rattle.std.specs.List.{list_any, range_with_len, position_or_len}
 use Rattle.basic_kinds.specs.declared.kind.Kind.TheVariants.{Wire, Iwire, Source, Sink, Fork, C, Merge, Toggle, Dw, Seq}
 use Rattle.net_core.specs.declared.spec.NodeSpec.{NodeSpec}
@@ -65,8 +65,8 @@ step_at c w (Some x) o = Some (list_node c (end_node (takes c) c x) (record w { 
 step_at c w None (Some n) = Some (list_node c n w)
 step_at c w None None = None
 
-abbrev pub step : Circuit → Walk → Option Walk
-step c w = step_at c w (slice_get w.numbered w.visited) (next_left c w.listed)
+abbrev pub walk_step : Circuit → Walk → Option Walk
+walk_step c w = step_at c w (slice_get w.numbered w.visited) (next_left c w.listed)
 
 abbrev pub goes_on : Walk → (Walk → Walk) → Option Walk → Walk
 goes_on w f None = w
@@ -75,7 +75,7 @@ goes_on w f (Some v) = f v
 -- the walk after so many steps, or after all of them where there are fewer
 unfoldable pub walked : Circuit → ℕ → Walk → Walk
 walked c zero w = w
-walked c (suc k) w = goes_on w (walked c k) (step c w)
+walked c (suc k) w = goes_on w (walked c k) (walk_step c w)
 
 abbrev pub ends_at : Option Node → List ℕ
 ends_at None = []
@@ -100,3 +100,7 @@ moved_all f c (n ∷ ns) = moved_at f (slice_get c.nodes n) ++ moved_all f c ns
 -- the network in walk order
 unfoldable pub walk : Circuit → Circuit
 walk c = record { nodes = moved_all (λ w. position_or_len (nat_eq w) (walk_of c).numbered) c (walk_of c).listed; wires = c.wires }
+
+-- the network is its own walk: its nodes and its wires stand as the walk numbers them
+abbrev pub IsInWalkOrder : Circuit → Type 0
+IsInWalkOrder c = walk c ≡ c

@@ -53,21 +53,26 @@ wiring b (x ∷ xs) = side (not b) x ++ flows b xs
 abbrev pub driven : Circuit → List ℕ
 driven c = wiring true c.nodes
 
-abbrev pub taken : Circuit → List ℕ
-taken c = wiring false c.nodes
+abbrev pub received : Circuit → List ℕ
+received c = wiring false c.nodes
 
 -- the wire has one driver and one receiver
 abbrev pub IsOnce : Circuit → ℕ → Type 0
-IsOnce c w = (count w (driven c) ≡ 1) × (count w (taken c) ≡ 1)
+IsOnce c w = (count w (driven c) ≡ 1) × (count w (received c) ≡ 1)
 
 abbrev pub IsClosed : Circuit → Type 0
 IsClosed c = (w : ℕ) → w < c.wires → IsOnce c w
 
 -- a node of a network with so many wires: one known wire at each port, and a well-formed kind
-pub record Fits (wires : ℕ) (x : Node) : Type 0 where
+pub record IsWired (wires : ℕ) (x : Node) : Type 0 where
   pub sized : length x.ends ≡ length (outs_of x.spec)
   pub known : AllByRecursion (λ w. w < wires) x.ends
   pub formed : IsFormed x.spec
+
+-- the circuit is a network: it has a node, and each node has one known wire at each port and a well-formed kind
+pub record IsNetwork (c : Circuit) : Type 0 where
+  pub some : 0 < length c.nodes
+  pub wired : AllByRecursion (IsWired c.wires) c.nodes
 
 -- a network in the making: what its environment will be, its components, and its wires
 pub record Draft : Type 0 where

@@ -1,6 +1,6 @@
 ghost use Rattle.std.specs.Prelude.{◌≡◌, ◌≢◌, ℕ, ◌+◌, ◌<◌, ◌≤◌, ◌^◌, true, false, not, [], ◌∷◌, ◌++◌, length, IfOk, IfErr, OnOk, OnErr, MatchOption, suc, take, drop};
 ghost use Rattle.std.specs.List.{AllByRecursion};
-ghost use Rattle.net_core.specs.Wiring.{Node, Circuit, Draft, Fits, IsOnce, IsClosed, picked, finished, replaced};
+ghost use Rattle.net_core.specs.Wiring.{Node, Circuit, Draft, IsWired, IsOnce, IsClosed, picked, finished, replaced};
 ghost use Rattle.net_core.specs.Specs.{IsFormed};
 ghost use Rattle.net_core.specs.Tallies.{Added, Roomy, Kept};
 
@@ -141,7 +141,7 @@ impl NetBuilder {
     /// Adds a component with these wires at its ports, and gives its number.
     /// After an error the builder is as before.
     pub fn node(&mut self, spec: NodeSpec, wires: Vec<u32>) -> Result<u32, AllocError>
-        requires fit { Fits self.old.wires (record { spec = spec; ends = wires.items }) }
+        requires fit { IsWired self.old.wires (record { spec = spec; ends = wires.items }) }
         requires few { length self.old.parts + 2 < 2 ^ 32 }
         ensures ok { IfOk result (λ n. (n ≡ length self.old.parts + 1)
             × (self.new ≡ record self.old { parts = self.old.parts ++ record { spec = spec; ends = wires.items } ∷ [] })) }
@@ -157,7 +157,7 @@ impl NetBuilder {
 
     /// The network whose environment has these wires at its ports.
     pub fn finish(self, wires: Vec<u32>) -> Result<Net, AllocError>
-        requires { Fits self.wires (record { spec = self.spec; ends = wires.items }) }
+        requires { IsWired self.wires (record { spec = self.spec; ends = wires.items }) }
         ensures { IfOk result (λ net. net ≡ finished self wires.items) }
     {
         let NetBuilder {
@@ -205,7 +205,7 @@ impl Net {
         requires component { 0 < at }
         requires inside { at < length self.nodes }
         requires few { length (replaced self at parts.items wires).nodes < 2 ^ 32 }
-        requires fit { AllByRecursion (Fits wires) (replaced self at parts.items wires).nodes }
+        requires fit { AllByRecursion (IsWired wires) (replaced self at parts.items wires).nodes }
         requires closed { IsClosed (replaced self at parts.items wires) }
         ensures ok { IfOk result (λ net. net ≡ replaced self at parts.items wires) }
         ensures refused { IfErr result (λ error. error.0 ≡ self) }
@@ -254,7 +254,7 @@ impl Net {
         requires closed { IsClosed self }
         requires some { 0 < length nodes.items }
         requires few { length nodes.items < 2 ^ 32 }
-        requires fit { AllByRecursion (Fits self.wires) nodes.items }
+        requires fit { AllByRecursion (IsWired self.wires) nodes.items }
         requires still_closed { IsClosed (record self { nodes = nodes.items }) }
         ensures { result ≡ record self { nodes = nodes.items } }
     {

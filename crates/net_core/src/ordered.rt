@@ -1,8 +1,7 @@
 ghost use Rattle.std.specs.Prelude.{◌≡◌, ℕ, ◌<◌, length, IfOk, IfErr};
-ghost use Rattle.std.specs.List.{AllByRecursion};
-ghost use Rattle.net_core.specs.declared.spec.NodeSpec.{NodeSpec};
-ghost use Rattle.net_core.specs.Wiring.{Fits, IsClosed};
-ghost use Rattle.net_core.specs.Networks.{directions, end_at, IsThrough, IsBasic, IsClean, SoundFor, Correct};
+ghost use Rattle.net_core.specs.Wiring.{IsNetwork, IsClosed};
+ghost use Rattle.net_core.specs.Networks.{directions, end_at, IsThrough};
+ghost use Rattle.net_core.specs.Renumbering.{Preserves};
 ghost use Rattle.net_core.specs.Walk as defined;
 
 use crate::net::{Net, Node};
@@ -16,11 +15,8 @@ pub fn order(alloc: Global, net: Net) -> Result<Net, (Net, AllocError)>
     requires { IsClosed net }
     ensures ok { IfOk result (λ ordered. ordered ≡ defined.walk net) }
     ensures refused { IfErr result (λ refusal. refusal.0 ≡ net) }
-    ensures closed { IfOk result (λ ordered. IsClosed ordered) }
-    ensures basic { IsBasic net → IfOk result (λ ordered. IsBasic ordered) }
-    ensures clean { IsClean net → IfOk result (λ ordered. IsClean ordered) }
-    ensures sound { (s : NodeSpec) → SoundFor net s → IfOk result (λ ordered. SoundFor ordered s) }
-    ensures correct { (s : NodeSpec) → Correct net s → IfOk result (λ ordered. Correct ordered s) }
+    ensures in_order { IfOk result (λ ordered. defined.IsInWalkOrder ordered) }
+    ensures preserved { IfOk result (λ ordered. Preserves net ordered) }
     ensures outside { ((w : ℕ) → w < net.wires → IsThrough net w → ⊥)
         → IfOk result (λ ordered. (p : ℕ) → p < length (directions net 0) → end_at ordered 0 p ≡ p) }
 {
@@ -31,7 +27,7 @@ fn put_in_order(alloc: Global, net: Net) -> Result<Net, (Net, AllocError)>
     requires { IsClosed net }
     ensures ok { IfOk result (λ ordered. ordered ≡ defined.walk net) }
     ensures refused { IfErr result (λ refusal. refusal.0 ≡ net) }
-    ensures fit { AllByRecursion (Fits net.wires) net.nodes }
+    ensures network { IsNetwork net }
 {
     // What a network keeps is known from a use of one of its fields on.
     let _ = &net.nodes;

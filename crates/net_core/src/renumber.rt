@@ -1,6 +1,6 @@
 ghost use Rattle.std.specs.Prelude.{◌≡◌, ℕ, ◌<◌, ◌≤◌, ◌^◌, map, nat_eq, length, slice_index, IfOk};
 ghost use Rattle.std.specs.List.{AllByRecursion, position_or_len};
-ghost use Rattle.net_core.specs.Wiring.{Circuit, Fits, count, moved};
+ghost use Rattle.net_core.specs.Wiring.{Circuit, IsWired, count, moved};
 ghost use Rattle.net_core.specs.Walk.{moved_all};
 
 use crate::net::{Net, Node};
@@ -24,7 +24,7 @@ pub fn places(alloc: Global, numbers: &[u32], bound: u32) -> Result<Vec<u32>, Al
 
 /// A copy of the node with the table's numbers for its wires.
 pub fn moved_node(alloc: Global, node: &Node, table: &[u32]) -> Result<Node, AllocError>
-    requires { Fits (length table.now) node.now }
+    requires { IsWired (length table.now) node.now }
     ensures { IfOk result (λ copy. copy ≡ moved (λ w. slice_index table.now w) node.now) }
 {
     let spec = copy_spec(alloc, &node.spec)?;

@@ -117,7 +117,7 @@ impl WalkState {
         requires walks { Walks net.now self.old }
         requires left { self.old.visited < length self.old.numbered.numbers }
         ensures walks { OnOk result (Walks net.now self.new) }
-        ensures step { OnOk result (defined.step net.now (walk_in self.old) ≡ Some (walk_in self.new)) }
+        ensures step { OnOk result (defined.walk_step net.now (walk_in self.old) ≡ Some (walk_in self.new)) }
         ensures visited { OnOk result (self.new.visited ≡ self.old.visited + 1) }
         ensures few { OnOk result (self.old.visited < net.now.wires) }
     {

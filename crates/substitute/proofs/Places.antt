@@ -5,7 +5,7 @@ use Rattle.std.proofs.lemmas.Bool.{cases_lt, cases_eq}
 use Rattle.std.proofs.lemmas.Option.{slice_get-map, slice_get_past}
 use Rattle.std.proofs.lemmas.List.{length-map}
 use Rattle.substitute.specs.Splice.{renumber, spliced, Fitting}
-use Rattle.net_core.specs.Wiring.{Node, Circuit, Fits, moved}
+use Rattle.net_core.specs.Wiring.{Node, Circuit, IsWired, moved}
 use Rattle.net_core.specs.Networks.{directions_at, directions, gives, takes, end_of, end_at, may_of}
 use Rattle.net_core.proofs.Moved.{directions_same, directions_moved, may_moved, end_moved}
 use Rattle.net_core.proofs.Ends.{side_of}
@@ -188,7 +188,7 @@ module _ (c : Circuit) (a : ℕ) (m : Circuit) (fit : Fitting c a m) where
       → end_at (spliced c a m) (part_place c a m n) p ≡ renumber c a m (end_at m n p)
   part_end b n p h side =
       let (x, e, l) = port_within b m.nodes n p (slice_get m.nodes n) refl side in
-      let fits = all_nodes (Fits m.wires) m.nodes n x fit.fit_part e in
+      let fits = all_nodes (IsWired m.wires) m.nodes n x fit.fit_part e in
       let sized = fits.sized in
       ap (λ o. end_of o p) (part_node n h) ∙ ap (λ o. end_of (option_map (moved (renumber c a m)) o) p) e
       ∙ end_moved (renumber c a m) x.ends p (omega arith) ∙ ap (λ o. renumber c a m (end_of o p)) (sym e)

@@ -3,7 +3,7 @@ use Rattle.std.proofs.Common.{◌≡◌, ◌⊎◌, inl, inr, ℕ, zero, suc, �
 use Rattle.std.specs.Prelude.{slice_get}
 use Rattle.std.specs.List.{AllByRecursion}
 use Rattle.std.proofs.lemmas.Bool.{cases_eq, cases_lt}
-use Rattle.net_core.specs.Wiring.{Node, Circuit, Fits, IsClosed, count}
+use Rattle.net_core.specs.Wiring.{Node, Circuit, IsWired, IsClosed, count}
 use Rattle.net_core.specs.Networks.{directions_at, directions, gives, takes, end_of, end_at}
 use Rattle.net_core.proofs.Counting.{count_nil, count_same, count_other}
 use Rattle.net_core.proofs.Found.{Located, gives_located, takes_located, one_side, all_nodes, same_ports}
@@ -51,7 +51,7 @@ either_side (true ∷ ds) zero h = inl refl
 either_side (false ∷ ds) zero h = inr refl
 either_side (d ∷ ds) (suc p) h = either_side ds p (omega arith)
 
-module _ (c : Circuit) (fit : AllByRecursion (Fits c.wires) c.nodes) (closed : IsClosed c) (n : ℕ) (x : Node) (here : slice_get c.nodes n ≡ Some x) where
+module _ (c : Circuit) (fit : AllByRecursion (IsWired c.wires) c.nodes) (closed : IsClosed c) (n : ℕ) (x : Node) (here : slice_get c.nodes n ≡ Some x) where
   gives_at : Located (gives c) c
   gives_at = gives_located c fit closed
 
@@ -59,7 +59,7 @@ module _ (c : Circuit) (fit : AllByRecursion (Fits c.wires) c.nodes) (closed : I
   takes_at = takes_located c fit closed
 
   many_ports : length (directions c n) ≡ length x.ends
-  many_ports = let fits = all_nodes (Fits c.wires) c.nodes n x fit here in
+  many_ports = let fits = all_nodes (IsWired c.wires) c.nodes n x fit here in
       ap (λ o. length (directions_at n o)) here ∙ same_ports n x ∙ sym fits.sized
 
   at_port : (p : ℕ) → end_at c n p ≡ get_or x.ends p 0
@@ -119,7 +119,7 @@ module _ (c : Circuit) (fit : AllByRecursion (Fits c.wires) c.nodes) (closed : I
       two_ends w p q l (at_port p ∙ e) (at_port q ∙ f) (port_side p (omega arith)) (port_side q in_q)
 
 -- What is said of the wires that stand twice at a node's ports is said of those that go from it to it.
-pub around_found : (c : Circuit) → AllByRecursion (Fits c.wires) c.nodes → IsClosed c → (n : ℕ) → n < length c.nodes → (ends : List ℕ) → ends ≡ ends_of (slice_get c.nodes n)
+pub around_found : (c : Circuit) → AllByRecursion (IsWired c.wires) c.nodes → IsClosed c → (n : ℕ) → n < length c.nodes → (ends : List ℕ) → ends ≡ ends_of (slice_get c.nodes n)
     → ((w : ℕ) → w < c.wires → 1 < count w ends → IsAround c n w) × ((w : ℕ) → w < c.wires → IsAround c n w → 1 < count w ends)
 around_found c fit closed n h ends e = at (slice_get c.nodes n) refl
   where
@@ -136,7 +136,7 @@ around_found c fit closed n h ends e = at (slice_get c.nodes n) refl
           λ w l go. subst (λ es. 1 < count w es) (sym same) (around_count c fit closed n x s w l go.0 go.1),
         )
 
-pub around_answer : {E : Type 0} (c : Circuit) → AllByRecursion (Fits c.wires) c.nodes → IsClosed c → (n : ℕ) → n < length c.nodes → (ends : List ℕ) → ends ≡ ends_of (slice_get c.nodes n)
+pub around_answer : {E : Type 0} (c : Circuit) → AllByRecursion (IsWired c.wires) c.nodes → IsClosed c → (n : ℕ) → n < length c.nodes → (ends : List ℕ) → ends ≡ ends_of (slice_get c.nodes n)
     → (r : Result (Option ℕ) E)
     → IfOk r (λ found. MatchOption found (IsNone (λ w. 1 < count w ends) c.wires) (λ w. IsLeast (λ w. 1 < count w ends) c.wires w))
     → IfOk r (λ found. MatchOption found (IsNone (IsAround c n) c.wires) (λ w. IsLeast (IsAround c n) c.wires w))

@@ -6,10 +6,10 @@ use Rattle.std.proofs.lemmas.Option.{slice_get_within, same_Some, none-some}
 use Rattle.std.proofs.lemmas.List.{length-map}
 use Rattle.std.specs.List.{AllByRecursion}
 use Rattle.net_core.specs.Runs.{Sound, Exact}
-use Rattle.net_core.specs.Wiring.{Node, Circuit, Fits, IsClosed, moved}
+use Rattle.net_core.specs.Wiring.{Node, Circuit, IsWired, IsNetwork, IsClosed, moved}
 use Rattle.net_core.specs.Networks.{gives, takes, end_at, spec_of, fabric, IsSpecified, SoundFor, Correct, IsClean, Once}
 use Rattle.net_core.specs.declared.spec.NodeSpec.{NodeSpec}
-use Rattle.net_core.proofs.Moved.{all_from, all_moved}
+use Rattle.net_core.proofs.Moved.{all_from, all_moved, node_at}
 use Rattle.net_core.proofs.Ends.{closed_by_counts}
 use Rattle.net_core.proofs.Found.{found_only, gives_there, takes_there, all_nodes}
 use Rattle.substitute.specs.Splice.{driver, receiver, output, input, is_inner, rank, renumber, spliced, Fitting}
@@ -56,18 +56,18 @@ module _ (c : Circuit) (a : ℕ) (m : Circuit) (fit : Fitting c a m) where
     | inr (inr x) ↦ (let k = x.number in let r = rank_below (is_inner m) u m.wires l x.inner in omega arith)
   ]
 
-  fits_net : (n : ℕ) (x : Node) → slice_get c.nodes n ≡ Some x → Fits (spliced c a m).wires x
+  fits_net : (n : ℕ) (x : Node) → slice_get c.nodes n ≡ Some x → IsWired (spliced c a m).wires x
   fits_net n x e =
-      let fits = all_nodes (Fits c.wires) c.nodes n x fit.fit_net e in
+      let fits = all_nodes (IsWired c.wires) c.nodes n x fit.fit_net e in
       record {
         sized = fits.sized;
         known = all_more x.ends c.wires (spliced c a m).wires (let wires = spliced_wires c a m in omega arith) fits.known;
         formed = fits.formed;
       }
 
-  fits_part : (n : ℕ) (x : Node) → slice_get m.nodes n ≡ Some x → Fits (spliced c a m).wires (moved (renumber c a m) x)
+  fits_part : (n : ℕ) (x : Node) → slice_get m.nodes n ≡ Some x → IsWired (spliced c a m).wires (moved (renumber c a m) x)
   fits_part n x e =
-      let fits = all_nodes (Fits m.wires) m.nodes n x fit.fit_part e in
+      let fits = all_nodes (IsWired m.wires) m.nodes n x fit.fit_part e in
       record {
         sized = length-map x.ends (renumber c a m) ∙ fits.sized;
         known = all_moved (renumber c a m) x.ends m.wires (spliced c a m).wires (λ w l. number_known w l) fits.known;
@@ -75,11 +75,11 @@ module _ (c : Circuit) (a : ℕ) (m : Circuit) (fit : Fitting c a m) where
       }
 
   fits_moved : (n : ℕ) (o : Option Node) → slice_get m.nodes n ≡ o → (y : Node) → option_map (moved (renumber c a m)) o ≡ Some y
-      → Fits (spliced c a m).wires y
+      → IsWired (spliced c a m).wires y
   fits_moved n None e y h = absurd (none-some y h)
-  fits_moved n (Some x) e y h = subst (Fits (spliced c a m).wires) (same_Some (moved (renumber c a m) x) y h) (fits_part n x e)
+  fits_moved n (Some x) e y h = subst (IsWired (spliced c a m).wires) (same_Some (moved (renumber c a m) x) y h) (fits_part n x e)
 
-  fits_at : (k : ℕ) (y : Node) → slice_get (spliced c a m).nodes k ≡ Some y → Fits (spliced c a m).wires y
+  fits_at : (k : ℕ) (y : Node) → slice_get (spliced c a m).nodes k ≡ Some y → IsWired (spliced c a m).wires y
   fits_at k y e =
       let l = slice_get_within (spliced c a m).nodes k y e in let s = spliced_length c a m fit in
       elim (decode c a m fit k (omega arith)) [
@@ -89,8 +89,8 @@ module _ (c : Circuit) (a : ℕ) (m : Circuit) (fit : Fitting c a m) where
       ]
 
   -- each node of the result has its wires
-  pub spliced_fits : AllByRecursion (Fits (spliced c a m).wires) (spliced c a m).nodes
-  spliced_fits = all_from (Fits (spliced c a m).wires) (spliced c a m).nodes fits_at
+  pub spliced_fits : AllByRecursion (IsWired (spliced c a m).wires) (spliced c a m).nodes
+  spliced_fits = all_from (IsWired (spliced c a m).wires) (spliced c a m).nodes fits_at
 
   pub spliced_some : 0 < length (spliced c a m).nodes
   spliced_some = let s = spliced_length c a m fit in let ins = fit.inside in let comp = fit.component in let some = fit.some in omega arith
@@ -223,6 +223,14 @@ module _ (c : Circuit) (a : ℕ) (m : Circuit) (fit : Fitting c a m) where
   spliced_specified s e = ap (λ k. spec_of (slice_get (spliced c a m).nodes k)) (sym (net_zero c a m fit))
       ∙ ap spec_of (net_node c a m fit 0 component_other) ∙ e
 
+  pub spliced_network : IsNetwork c → IsNetwork (spliced c a m)
+  spliced_network network =
+      let (x, e) = node_at c.nodes 0 network.some in record {
+        some = omega (arith, slice_get_within (spliced c a m).nodes 0 x
+            (ap (slice_get (spliced c a m).nodes) (sym (net_zero c a m fit)) ∙ net_node c a m fit 0 component_other ∙ e));
+        wired = spliced_fits;
+      }
+
   pub spliced_sound : Sound (fabric c) → Sound (fabric m) → Sound (fabric (spliced c a m))
   spliced_sound f g = joined_sound (fabric c) a (fabric m) 0 (fabric (spliced c a m)) (spliced_joins c a m fit) f g
 
@@ -234,6 +242,7 @@ module _ (c : Circuit) (a : ℕ) (m : Circuit) (fit : Fitting c a m) where
   -- Sound for s with a network that is sound for a's specification in a's place is sound for s.
   pub spliced_sound_for : (s t : NodeSpec) → SoundFor c s → SoundFor m t → SoundFor (spliced c a m) s
   spliced_sound_for s t f g = record {
+    network = spliced_network f.network;
     closed = spliced_closed;
     specified = spliced_specified s f.specified;
     sound = spliced_sound f.sound g.sound;
@@ -242,6 +251,7 @@ module _ (c : Circuit) (a : ℕ) (m : Circuit) (fit : Fitting c a m) where
   -- And correct with correct is correct.
   pub spliced_correct : (s t : NodeSpec) → Correct c s → Correct m t → Correct (spliced c a m) s
   spliced_correct s t f g = record {
+    network = spliced_network f.network;
     closed = spliced_closed;
     specified = spliced_specified s f.specified;
     sound = spliced_sound f.sound g.sound;

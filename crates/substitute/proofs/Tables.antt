@@ -6,7 +6,7 @@ use Rattle.std.proofs.lemmas.Bool.{cases_eq, cases_lt, cases_Bool, false≢true,
 use Rattle.std.proofs.lemmas.Option.{same_Some}
 use Rattle.std.proofs.lemmas.List.FromFn.{get_or-map-range_with_len}
 use Rattle.net_core.specs.Specs.{outs_of}
-use Rattle.net_core.specs.Wiring.{Node, Circuit, Fits, count, moved, replaced}
+use Rattle.net_core.specs.Wiring.{Node, Circuit, IsWired, count, moved, replaced}
 use Rattle.net_core.specs.Networks.{directions_at, directions, gives, takes, end_of, end_at, spec_of}
 use Rattle.net_core.proofs.Found.{all_nodes, same_ports, gives_there, takes_there}
 use Rattle.substitute.specs.Splice.{driver, receiver, output, input, is_inner, rank, renumber, spliced, Fitting}
@@ -78,10 +78,10 @@ rank_none : (k : ℕ) (f : ℕ → Bool) → k ≡ k + rank f 0
 unfolding rank
 rank_none k f = omega arith
 
-moved_same : (f g : ℕ → ℕ) (n : ℕ) (xs : List Node) → ((w : ℕ) → w < n → f w ≡ g w) → AllByRecursion (Fits n) xs → map (moved f) xs ≡ map (moved g) xs
+moved_same : (f g : ℕ → ℕ) (n : ℕ) (xs : List Node) → ((w : ℕ) → w < n → f w ≡ g w) → AllByRecursion (IsWired n) xs → map (moved f) xs ≡ map (moved g) xs
 moved_same f g n [] h all = refl
 moved_same f g n (x ∷ xs) h all =
-    let fits : Fits n x = all.0 in let ends = ends_same x.ends fits.known in let rest = moved_same f g n xs h all.1 in
+    let fits : IsWired n x = all.0 in let ends = ends_same x.ends fits.known in let rest = moved_same f g n xs h all.1 in
     λ i. record { spec = x.spec; ends = ends i } ∷ rest i
   where
     ends_same : (ws : List ℕ) → AllByRecursion (λ w. w < n) ws → map f ws ≡ map g ws
@@ -100,8 +100,8 @@ all_dropped P (x ∷ xs) all = all.1
 module _ (c : Circuit) (a : ℕ) (m : Circuit) (fit : Fitting c a m) (x y : Node) (here : slice_get c.nodes a ≡ Some x) (there : slice_get m.nodes 0 ≡ Some y) where
   same_ends : length x.ends ≡ length y.ends
   same_ends =
-      let first = all_nodes (Fits c.wires) c.nodes a x fit.fit_net here in
-      let second = all_nodes (Fits m.wires) m.nodes 0 y fit.fit_part there in
+      let first = all_nodes (IsWired c.wires) c.nodes a x fit.fit_net here in
+      let second = all_nodes (IsWired m.wires) m.nodes 0 y fit.fit_part there in
       let specs : x.spec ≡ y.spec = same_Some x.spec y.spec (sym (ap spec_of here) ∙ fit.same ∙ ap spec_of there) in
       first.sized ∙ ap (λ s. length (outs_of s)) specs ∙ sym second.sized
 
@@ -122,7 +122,7 @@ module _ (c : Circuit) (a : ℕ) (m : Circuit) (fit : Fitting c a m) (x y : Node
 
   port_in : (u p : ℕ) → u < m.wires → (gives m 0 p ≡ true) ⊎ (takes m 0 p ≡ true) → p < length y.ends
   port_in u p l side =
-      let fits = all_nodes (Fits m.wires) m.nodes 0 y fit.fit_part there in
+      let fits = all_nodes (IsWired m.wires) m.nodes 0 y fit.fit_part there in
       let many : length (directions m 0) ≡ length y.ends = ap (λ o. length (directions_at 0 o)) there ∙ same_ports 0 y ∙ sym fits.sized in
       elim side [
         | inl g ↦ (let at = (gives_there m 0 p g).1 in omega arith)
@@ -193,7 +193,7 @@ spliced_is c a m fit nodes table wires e f g =
     let known : (w : ℕ) → w < m.wires → get_or table w 0 ≡ renumber c a m w =
     λ w l. ap (λ t. get_or t w 0) e ∙ get_or-map-range_with_len (renumber c a m) 0 m.wires w w 0 l (omega arith) in
     let moves : nodes ≡ map (moved (renumber c a m)) (drop 1 m.nodes) =
-    g ∙ moved_same (λ w. get_or table w 0) (renumber c a m) m.wires (drop 1 m.nodes) known (all_dropped (Fits m.wires) m.nodes fit.fit_part) in
+    g ∙ moved_same (λ w. get_or table w 0) (renumber c a m) m.wires (drop 1 m.nodes) known (all_dropped (IsWired m.wires) m.nodes fit.fit_part) in
     λ i. record { nodes = take a c.nodes ++ (moves i ++ drop (suc a) c.nodes); wires = f i }
 
 rank_few : (f : ℕ → Bool) (n : ℕ) → rank f n ≤ n

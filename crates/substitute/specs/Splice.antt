@@ -1,7 +1,7 @@
 -- A network in the place of one node of another.
 use Rattle.std.specs.Prelude.{◌≡◌, ℕ, zero, suc, ◌+◌, ◌<◌, Bool, not, ◌&&◌, length, map, take, drop, ◌++◌, slice_get, nat_eq, if◌then◌else◌}
 use Rattle.std.specs.List.{AllByRecursion}
-use Rattle.net_core.specs.Wiring.{Circuit, Fits, IsClosed, moved}
+use Rattle.net_core.specs.Wiring.{Circuit, IsWired, IsClosed, moved}
 use Rattle.net_core.specs.Networks.{gives, takes, end_at, end_node, end_port, spec_of, IsThrough}
 
 -- the node and the port that drive a wire, and those that receive it
@@ -44,9 +44,9 @@ spliced c a m = record {
 -- m may take the place of c's node a.
 pub record Fitting (c : Circuit) (a : ℕ) (m : Circuit) : Type 0 where
   -- each node has its wires, and each wire its two ends
-  pub fit_net : AllByRecursion (Fits c.wires) c.nodes
+  pub fit_net : AllByRecursion (IsWired c.wires) c.nodes
   pub closed_net : IsClosed c
-  pub fit_part : AllByRecursion (Fits m.wires) m.nodes
+  pub fit_part : AllByRecursion (IsWired m.wires) m.nodes
   pub closed_part : IsClosed m
   -- a is a component, and m has an environment, which is specified as a is
   pub component : 0 < a

@@ -1,6 +1,6 @@
 ghost use Rattle.std.specs.Prelude.{◌≡◌, ℕ, ◌+◌, ◌<◌, ◌≤◌, ◌^◌, length, map, drop, slice_index, None, IfOk, MatchOption};
 ghost use Rattle.std.specs.List.{AllByRecursion, range_with_len};
-ghost use Rattle.net_core.specs.Wiring.{Node, Fits, count, moved};
+ghost use Rattle.net_core.specs.Wiring.{Node, IsWired, count, moved};
 ghost use Rattle.substitute.specs.Refusals.{IsNone, IsLeast};
 ghost use Rattle.substitute.specs.Renumbering.{written, filled, after_filled};
 
@@ -80,7 +80,7 @@ pub fn fill_numbers(alloc: Global, fused: &[Option<u32>], first: u32) -> Result<
 
 /// Copies of the nodes with the table's numbers for their wires.
 pub fn moved_nodes(alloc: Global, nodes: &[Node], table: &[u32]) -> Result<Vec<Node>, AllocError>
-    requires { AllByRecursion (Fits (length table.now)) nodes.now }
+    requires { AllByRecursion (IsWired (length table.now)) nodes.now }
     ensures { IfOk result (λ copies. copies.items ≡ map (moved (λ w. slice_index table.now w)) nodes.now) }
 {
     let mut copies = Vec::new(alloc);

@@ -1,7 +1,7 @@
 ghost use Rattle.std.specs.Prelude.{◌≡◌, ◌⊎◌, ◌↔◌, ℕ, ◌+◌, ◌<◌, ◌^◌, length, map, drop, slice_get, slice_index, IsTrue, IfOk, IfErr, MatchOption};
 ghost use Rattle.std.specs.List.{AllByRecursion, range_with_len};
 ghost use Rattle.net_core.specs.declared.spec.NodeSpec.{NodeSpec};
-ghost use Rattle.net_core.specs.Wiring.{Fits, IsClosed, moved, replaced};
+ghost use Rattle.net_core.specs.Wiring.{IsWired, IsClosed, moved, replaced};
 ghost use Rattle.net_core.specs.Networks.{IsClean, SoundFor, Correct};
 ghost use Rattle.substitute.specs.Splice.{spliced, Fitting, renumber, rank, is_inner};
 ghost use Rattle.substitute.specs.Refusals.{IsSame, IsAround, IsNone, IsLeast, Refuses, ends_of};
@@ -95,7 +95,7 @@ fn obstacle(alloc: Global, net: &Net, at: u32, sub: &Net) -> Option<SpliceRefusa
 
 /// Each node of a network has its wires, and it has an environment.
 fn well(net: &Net)
-    ensures fit { AllByRecursion (Fits net.now.wires) net.now.nodes }
+    ensures fit { AllByRecursion (IsWired net.now.wires) net.now.nodes }
     ensures some { 0 < length net.now.nodes }
 {
     let _ = &net.nodes;

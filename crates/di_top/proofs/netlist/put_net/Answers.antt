@@ -1,7 +1,7 @@
 use Rattle.std.proofs.Common.{◌≡◌, ◌-◌, ◌∙◌, List, ℕ, ap, sym, subst, length, take, drop, OnOk, OnErr}
 use Rattle.std.specs.List.{AllByRecursion}
 use Rattle.net_core.specs.declared.spec.NodeSpec.TheVariants.{Cmd}
-use Rattle.net_core.specs.Wiring.{Node, Circuit, Fits}
+use Rattle.net_core.specs.Wiring.{Node, Circuit, IsWired}
 use Rattle.di_io.specs.Written.{Gains, GainsFront}
 use Rattle.di_top.specs.NetText.{net_text_of, nodes_net_text}
 use Rattle.di_top.specs.Netlists.{first_outs}
@@ -17,7 +17,7 @@ put_lines-requires-clause-directed g c =
 
 pub put_lines-requires-clause-whole : goal.put_lines-requires-clause-whole
 put_lines-requires-clause-whole g c =
-    let fit : AllByRecursion (Fits c.net.inside.wires) c.as_slice.result.now = rw c.as_slice.ensures.value c.net.invariant.fit in
+    let fit : AllByRecursion (IsWired c.net.inside.wires) c.as_slice.result.now = rw c.as_slice.ensures.value c.net.invariant.fit in
     rest_whole c.net.inside.wires c.as_slice.result.now c.in-len1-up.len_at_least fit
 
 pub returns-in-Cmd-clause-ok : goal.returns-in-Cmd-clause-ok

@@ -1,15 +1,14 @@
-use Rattle.net_core.proofs.Found.{there_by_port}
-use Rattle.net_core.proofs.WalkOrder.{walk_fits, walk_closed, walk_basic, walk_clean, walk_sound, walk_correct}
+use Rattle.net_core.proofs.Walked.{ended}
+use Rattle.net_core.proofs.WalkOrder.{walk_renumbered, walk_preserved}
+use Rattle.net_core.proofs.WalkAgain.{walk_again}
 use Rattle.net_core.proofs.FirstWires.{first_wires}
 use Rattle.net_core.proofs.laws.walk_law.Goals as goal
 
 pub returns : goal.returns
 returns c = record {
-  fits = walk_fits;
-  closed = walk_closed;
-  basic = walk_basic;
-  clean = walk_clean;
-  sound = walk_sound;
-  outside = λ network fit closed through p h. first_wires network fit closed (there_by_port network 0 p h).0 through p h;
-  correct = walk_correct;
+  ended = λ d network closed. (ended d network.wired closed network.some).1;
+  renumbered = walk_renumbered;
+  preserved = walk_preserved;
+  in_order = walk_again;
+  outside = λ d network closed through p h. first_wires d network.wired closed network.some through p h;
 }

@@ -2,7 +2,7 @@ use Rattle.std.proofs.Common.{◌≡◌, ◌<◌, ◌≤◌, List, ℕ, length, 
 use Rattle.std.specs.Prelude.{nat_eq}
 use Rattle.std.specs.List.{AllByRecursion, position_or_len}
 use Rattle.std.proofs.lemmas.Result.{IfOk-weaker}
-use Rattle.net_core.specs.Wiring.{Circuit, Fits, count}
+use Rattle.net_core.specs.Wiring.{Circuit, IsWired, count}
 use Rattle.net_core.specs.Walk.{Walk, walk, walk_of, moved_all}
 use Rattle.net_core.proofs.WalkOrder.{holds, wires_whole, walk_by_table}
 use Rattle.net_core.proofs.ordered.ordered_nodes.Goals as goal
@@ -10,7 +10,7 @@ use Rattle.net_core.proofs.ordered.ordered_nodes.Goals as goal
 pub places-requires-clause-known : goal.places-requires-clause-known
 places-requires-clause-known c =
     let net = c.args.net.now in
-    let fit : AllByRecursion (Fits net.wires) net.nodes = subst (λ (d : Circuit). AllByRecursion (Fits d.wires) d.nodes) c.net.view_is c.net.invariant.fit in
+    let fit : AllByRecursion (IsWired net.wires) net.nodes = subst (λ (d : Circuit). AllByRecursion (IsWired d.wires) d.nodes) c.net.view_is c.net.invariant.fit in
     let some : 0 < length net.nodes = subst (λ (d : Circuit). 0 < length d.nodes) c.net.view_is c.net.invariant.some in
     let numbers : c.numbers.result.now ≡ (walk_of net).numbered = c.numbers.ensures ∙ ap (λ (w : Walk). w.numbered) c.in_ok-walk.ensures in
     let wires : net.wires ≡ c.net.inside.wires = ap (λ (d : Circuit). d.wires) (sym c.net.view_is) in
@@ -20,7 +20,7 @@ places-requires-clause-known c =
 pub places-requires-clause-once : goal.places-requires-clause-once
 places-requires-clause-once c = λ n.
     let net = c.args.net.now in
-    let fit : AllByRecursion (Fits net.wires) net.nodes = subst (λ (d : Circuit). AllByRecursion (Fits d.wires) d.nodes) c.net.view_is c.net.invariant.fit in
+    let fit : AllByRecursion (IsWired net.wires) net.nodes = subst (λ (d : Circuit). AllByRecursion (IsWired d.wires) d.nodes) c.net.view_is c.net.invariant.fit in
     let some : 0 < length net.nodes = subst (λ (d : Circuit). 0 < length d.nodes) c.net.view_is c.net.invariant.some in
     let numbers : c.numbers.result.now ≡ (walk_of net).numbered = c.numbers.ensures ∙ ap (λ (w : Walk). w.numbered) c.in_ok-walk.ensures in
     let h = holds net fit c.requires some in
@@ -29,7 +29,7 @@ places-requires-clause-once c = λ n.
 pub places-requires-clause-whole : goal.places-requires-clause-whole
 places-requires-clause-whole c = λ n below.
     let net = c.args.net.now in
-    let fit : AllByRecursion (Fits net.wires) net.nodes = subst (λ (d : Circuit). AllByRecursion (Fits d.wires) d.nodes) c.net.view_is c.net.invariant.fit in
+    let fit : AllByRecursion (IsWired net.wires) net.nodes = subst (λ (d : Circuit). AllByRecursion (IsWired d.wires) d.nodes) c.net.view_is c.net.invariant.fit in
     let some : 0 < length net.nodes = subst (λ (d : Circuit). 0 < length d.nodes) c.net.view_is c.net.invariant.some in
     let numbers : c.numbers.result.now ≡ (walk_of net).numbered = c.numbers.ensures ∙ ap (λ (w : Walk). w.numbered) c.in_ok-walk.ensures in
     let known : n < net.wires = subst (λ (d : Circuit). n < d.wires) c.net.view_is below in
@@ -38,7 +38,7 @@ places-requires-clause-whole c = λ n below.
 pub moved_nodes-requires-clause-known : goal.moved_nodes-requires-clause-known
 moved_nodes-requires-clause-known c =
     let net = c.args.net.now in
-    let fit : AllByRecursion (Fits net.wires) net.nodes = subst (λ (d : Circuit). AllByRecursion (Fits d.wires) d.nodes) c.net.view_is c.net.invariant.fit in
+    let fit : AllByRecursion (IsWired net.wires) net.nodes = subst (λ (d : Circuit). AllByRecursion (IsWired d.wires) d.nodes) c.net.view_is c.net.invariant.fit in
     let some : 0 < length net.nodes = subst (λ (d : Circuit). 0 < length d.nodes) c.net.view_is c.net.invariant.some in
     let listed : c.numbers-2.result.now ≡ (walk_of net).listed = c.numbers-2.ensures ∙ ap (λ (w : Walk). w.listed) c.in_ok-walk.ensures in
     let h = holds net fit c.requires some in
@@ -47,7 +47,7 @@ moved_nodes-requires-clause-known c =
 pub returns : goal.returns
 returns c =
     let net = c.args.net.now in
-    let fit : AllByRecursion (Fits net.wires) net.nodes = subst (λ (d : Circuit). AllByRecursion (Fits d.wires) d.nodes) c.net.view_is c.net.invariant.fit in
+    let fit : AllByRecursion (IsWired net.wires) net.nodes = subst (λ (d : Circuit). AllByRecursion (IsWired d.wires) d.nodes) c.net.view_is c.net.invariant.fit in
     let numbers : c.numbers.result.now ≡ (walk_of net).numbered = c.numbers.ensures ∙ ap (λ (w : Walk). w.numbered) c.in_ok-walk.ensures in
     let listed : c.numbers-2.result.now ≡ (walk_of net).listed = c.numbers-2.ensures ∙ ap (λ (w : Walk). w.listed) c.in_ok-walk.ensures in
     let table : c.deref.result.now ≡ c.in_ok-numbers.numbers.items = c.deref.ensures.value in

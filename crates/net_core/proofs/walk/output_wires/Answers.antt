@@ -3,7 +3,7 @@ use Rattle.std.specs.Prelude.{slice_get, Some}
 use Rattle.std.specs.List.{AllByRecursion}
 use Rattle.std.proofs.lemmas.Option.{slice_get_read}
 use Rattle.std.proofs.lemmas.Result.{IfOk-weaker}
-use Rattle.net_core.specs.Wiring.{Node, Circuit, Fits, picked}
+use Rattle.net_core.specs.Wiring.{Node, Circuit, IsWired, picked}
 use Rattle.net_core.proofs.Counting.{picked_all}
 use Rattle.net_core.proofs.Found.{all_nodes}
 use Rattle.net_core.proofs.walk.output_wires.Goals as goal
@@ -14,7 +14,7 @@ returns-clause-known c =
     let x = c.index-2.result.now in
     let there : slice_get xs c.args.node ≡ Some x =
     slice_get_read xs (length xs) c.args.node x refl (omega (arith, c.requires, ap (λ (d : Circuit). length d.nodes) c.net.view_is)) c.index-2.ensures in
-    let fits : Fits c.net.inside.wires x = all_nodes (Fits c.net.inside.wires) xs c.args.node x c.net.invariant.fit there in
+    let fits : IsWired c.net.inside.wires x = all_nodes (IsWired c.net.inside.wires) xs c.args.node x c.net.invariant.fit there in
     let ends : c.deref-2.result.now ≡ x.ends = c.deref-2.ensures.value ∙ ap (λ (y : Node). y.ends) c.behind-net-2.view_is in
     let known : AllByRecursion (λ w. w < c.args.net.now.wires) c.deref-2.result.now =
     subst (λ (d : Circuit). AllByRecursion (λ w. w < d.wires) c.deref-2.result.now) c.net.view_is

@@ -3,7 +3,7 @@ use Rattle.std.specs.Prelude.{slice_get, Some}
 use Rattle.std.specs.List.{AllByRecursion}
 use Rattle.std.proofs.lemmas.Option.{slice_get_read}
 use Rattle.net_core.specs.Specs.{outs_of}
-use Rattle.net_core.specs.Wiring.{Node, Circuit, Fits}
+use Rattle.net_core.specs.Wiring.{Node, Circuit, IsWired}
 use Rattle.net_core.specs.Walking.{AreWritten}
 use Rattle.net_core.proofs.Drafts.{written_all}
 use Rattle.net_core.proofs.Receivers.{received_more, received_all}
@@ -14,7 +14,7 @@ loop-number-preserved c =
     let net = c.args.net.now in
     let i = c.loop-number.number in
     let x = c.node-item.result in
-    let fit : AllByRecursion (Fits net.wires) net.nodes = subst (λ (d : Circuit). AllByRecursion (Fits d.wires) d.nodes) c.net.view_is c.net.invariant.fit in
+    let fit : AllByRecursion (IsWired net.wires) net.nodes = subst (λ (d : Circuit). AllByRecursion (IsWired d.wires) d.nodes) c.net.view_is c.net.invariant.fit in
     let nodes : c.deref-node-items.result.now ≡ net.nodes = c.deref-node-items.ensures.value ∙ ap (λ (d : Circuit). d.nodes) c.net.view_is in
     let there : slice_get net.nodes i ≡ Some x = ap (λ (xs : List Node). slice_get xs i) (sym nodes)
     ∙ slice_get_read c.deref-node-items.result.now (length c.deref-node-items.result.now) i x refl c.loop-number-test.true c.node-item.is in
@@ -29,6 +29,6 @@ loop-number-preserved c =
 pub returns : goal.returns
 returns c =
     let net = c.args.net.now in
-    let fit : AllByRecursion (Fits net.wires) net.nodes = subst (λ (d : Circuit). AllByRecursion (Fits d.wires) d.nodes) c.net.view_is c.net.invariant.fit in
+    let fit : AllByRecursion (IsWired net.wires) net.nodes = subst (λ (d : Circuit). AllByRecursion (IsWired d.wires) d.nodes) c.net.view_is c.net.invariant.fit in
     let many : length net.nodes ≡ length c.deref-node-items.result.now = ap (λ (d : Circuit). length d.nodes) (sym c.net.view_is) ∙ ap (λ (xs : List Node). length xs) (sym c.deref-node-items.ensures.value) in
     received_all net fit c.requires c.loop-number.table.items c.loop-number.number (omega (arith, c.loop-number-test.false)) c.loop-number.invariant

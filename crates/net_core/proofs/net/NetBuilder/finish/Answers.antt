@@ -1,5 +1,5 @@
 use Rattle.std.proofs.Common.{◌≡◌, length, ap, ◌∙◌, rules, true, false}
-use Rattle.net_core.specs.Wiring.{Draft, picked, Fits}
+use Rattle.net_core.specs.Wiring.{Draft, picked, IsWired}
 use Rattle.net_core.specs.Specs.{outs_of}
 use Rattle.net_core.specs.Tallies.{Added}
 use Rattle.net_core.proofs.Drafts.{roomy, whole, written_all, wires_few}
@@ -19,7 +19,7 @@ invariant_of-result c =
     let spec : c.self.inside.spec ≡ c.args.self.spec = ap (λ (d : Draft). d.spec) c.self.view_is in
     let count : c.self.inside.wires ≡ c.args.self.wires = ap (λ (d : Draft). d.wires) c.self.view_is in
     let outs : c.deref.result.now ≡ outs_of c.self.inside.spec = c.deref.ensures.value ∙ c.in_ok-outs.ensures in
-    let fit : Fits c.self.inside.wires (record { spec = c.self.inside.spec; ends = c.args.wires.items }) = rw (spec, count) c.requires in
+    let fit : IsWired c.self.inside.wires (record { spec = c.self.inside.spec; ends = c.args.wires.items }) = rw (spec, count) c.requires in
     let added : Added c.self.inside.ends.items c.count_ends.new.ends (picked false (outs_of c.self.inside.spec) c.args.wires.items) (picked true (outs_of c.self.inside.spec) c.args.wires.items) =
     rw (← ends, ← wires, ← outs) c.count_ends.ensures in
     let sized : length c.count_ends.new.ends ≡ c.self.inside.ends.len = search (rules, c.count_ends.ensures.sized, ap length ends) in

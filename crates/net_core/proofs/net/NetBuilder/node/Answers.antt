@@ -1,5 +1,5 @@
 use Rattle.std.proofs.Common.{◌≡◌, ◌∷◌, [], ◌++◌, ◌-◌, ◌<◌, ◌^◌, suc, length, ap, ◌∙◌, arith, rules, true, false}
-use Rattle.net_core.specs.Wiring.{Node, Draft, side, Fits}
+use Rattle.net_core.specs.Wiring.{Node, Draft, side, IsWired}
 use Rattle.net_core.specs.Specs.{outs_of}
 use Rattle.net_core.specs.Tallies.{Added}
 use Rattle.net_core.proofs.Drafts.{roomy, one_part, last_is, written_all, wires_few}
@@ -27,7 +27,7 @@ invariant_of-self-2 c =
     let wires : c.deref-2.result.now ≡ c.args.wires.items = c.deref-2.ensures.value ∙ ap (λ (y : Node). y.ends) (c.node.view_is ∙ here) in
     let ends : c.deref_mut.result.now ≡ c.self.inside.ends.items = c.deref_mut.ensures.value in
     let outs : c.deref.result.now ≡ outs_of c.args.spec = c.deref.ensures.value ∙ c.in_ok-outs.ensures in
-    let fit : Fits c.self.inside.wires x = rw (ap (λ (d : Draft). d.wires) c.self.view_is) c.requires.fit in
+    let fit : IsWired c.self.inside.wires x = rw (ap (λ (d : Draft). d.wires) c.self.view_is) c.requires.fit in
     let few : suc (suc (length c.self.inside.parts.items)) < 2 ^ 32 =
     omega (arith, c.requires.few, ap (λ (d : Draft). length d.parts) c.self.view_is) in
     let added : Added c.self.inside.ends.items c.count_ends.new.ends (side true x) (side false x) =

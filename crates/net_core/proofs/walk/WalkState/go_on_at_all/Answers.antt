@@ -1,6 +1,6 @@
 use Rattle.std.proofs.Common.{◌<◌, length, ap, subst, arith, below_more}
 use Rattle.std.specs.List.{AllByRecursion}
-use Rattle.net_core.specs.Wiring.{Circuit, Fits}
+use Rattle.net_core.specs.Wiring.{Circuit, IsWired}
 use Rattle.net_core.specs.WalkStates.{walk_in}
 use Rattle.net_core.proofs.WalkSteps.{next_other, leads_keeps}
 use Rattle.net_core.proofs.WalkStates.{walk_whole}
@@ -24,7 +24,7 @@ loop-number-preserved c =
 pub returns : goal.returns
 returns c =
     let net = c.args.net.now in
-    let fit : AllByRecursion (Fits net.wires) net.nodes = subst (λ (d : Circuit). AllByRecursion (Fits d.wires) d.nodes) c.net.view_is c.net.invariant.fit in
+    let fit : AllByRecursion (IsWired net.wires) net.nodes = subst (λ (d : Circuit). AllByRecursion (IsWired d.wires) d.nodes) c.net.view_is c.net.invariant.fit in
     let some : 0 < length net.nodes = subst (λ (d : Circuit). 0 < length d.nodes) c.net.view_is c.net.invariant.some in
     walk_whole net fit c.requires.closed some c.loop-number.self c.loop-number.invariant.walks c.loop-number.invariant.visited c.loop-number.invariant.sources
     (λ k h. c.loop-number.invariant.below k (omega (arith, c.loop-number-test.false, c.len-number-end.ensures, ap (λ (d : Circuit). length d.nodes) c.net.view_is)))

@@ -1,7 +1,7 @@
 use Rattle.std.proofs.Common.{◌≡◌, ◌<◌, ◌+◌, length, get_or, subst, arith}
 use Rattle.std.specs.List.{AllByRecursion}
 use Rattle.std.proofs.lemmas.Result.{on_ok_weaker}
-use Rattle.net_core.specs.Wiring.{Circuit, Fits}
+use Rattle.net_core.specs.Wiring.{Circuit, IsWired}
 use Rattle.net_core.specs.Walk.{list_node}
 use Rattle.net_core.specs.WalkStates.{walk_in, IsSized, Walks}
 use Rattle.net_core.proofs.WalkSteps.{leads_step}
@@ -11,14 +11,14 @@ use Rattle.net_core.proofs.walk.WalkState.visit_next.Goals as goal
 pub bounds-receivers-wire : goal.bounds-receivers-wire
 bounds-receivers-wire c =
     let net = c.args.net.now in
-    let fit : AllByRecursion (Fits net.wires) net.nodes = subst (λ (d : Circuit). AllByRecursion (Fits d.wires) d.nodes) c.net.view_is c.net.invariant.fit in
+    let fit : AllByRecursion (IsWired net.wires) net.nodes = subst (λ (d : Circuit). AllByRecursion (IsWired d.wires) d.nodes) c.net.view_is c.net.invariant.fit in
     let some : 0 < length net.nodes = subst (λ (d : Circuit). 0 < length d.nodes) c.net.view_is c.net.invariant.some in
     omega (arith, c.requires.receivers.sized, wire_known net fit c.requires.closed some c.args.self.now c.requires.walks c.requires.left c.numbers.result.now c.numbers.ensures)
 
 pub list_node-requires-clause-inside : goal.list_node-requires-clause-inside
 list_node-requires-clause-inside c =
     let net = c.args.net.now in
-    let fit : AllByRecursion (Fits net.wires) net.nodes = subst (λ (d : Circuit). AllByRecursion (Fits d.wires) d.nodes) c.net.view_is c.net.invariant.fit in
+    let fit : AllByRecursion (IsWired net.wires) net.nodes = subst (λ (d : Circuit). AllByRecursion (IsWired d.wires) d.nodes) c.net.view_is c.net.invariant.fit in
     let some : 0 < length net.nodes = subst (λ (d : Circuit). 0 < length d.nodes) c.net.view_is c.net.invariant.some in
     receiver_known net fit c.requires.closed some c.args.self.now c.requires.walks c.requires.left c.numbers.result.now c.numbers.ensures
     c.args.receivers.now c.requires.receivers
@@ -26,7 +26,7 @@ list_node-requires-clause-inside c =
 pub returns-clause-walks : goal.returns-clause-walks
 returns-clause-walks c =
     let net = c.args.net.now in
-    let fit : AllByRecursion (Fits net.wires) net.nodes = subst (λ (d : Circuit). AllByRecursion (Fits d.wires) d.nodes) c.net.view_is c.net.invariant.fit in
+    let fit : AllByRecursion (IsWired net.wires) net.nodes = subst (λ (d : Circuit). AllByRecursion (IsWired d.wires) d.nodes) c.net.view_is c.net.invariant.fit in
     let some : 0 < length net.nodes = subst (λ (d : Circuit). 0 < length d.nodes) c.net.view_is c.net.invariant.some in
     let old = c.args.self.now in
     let new = c.list_node.new.self in
@@ -40,7 +40,7 @@ returns-clause-walks c =
 pub returns-clause-step : goal.returns-clause-step
 returns-clause-step c =
     let net = c.args.net.now in
-    let fit : AllByRecursion (Fits net.wires) net.nodes = subst (λ (d : Circuit). AllByRecursion (Fits d.wires) d.nodes) c.net.view_is c.net.invariant.fit in
+    let fit : AllByRecursion (IsWired net.wires) net.nodes = subst (λ (d : Circuit). AllByRecursion (IsWired d.wires) d.nodes) c.net.view_is c.net.invariant.fit in
     let some : 0 < length net.nodes = subst (λ (d : Circuit). 0 < length d.nodes) c.net.view_is c.net.invariant.some in
     on_ok_weaker c.list_node.result
     (visit_step net fit c.requires.closed some c.args.self.now c.requires.walks c.requires.left c.numbers.result.now c.numbers.ensures c.args.receivers.now c.requires.receivers
@@ -50,6 +50,6 @@ returns-clause-step c =
 pub returns-clause-few : goal.returns-clause-few
 returns-clause-few c =
     let net = c.args.net.now in
-    let fit : AllByRecursion (Fits net.wires) net.nodes = subst (λ (d : Circuit). AllByRecursion (Fits d.wires) d.nodes) c.net.view_is c.net.invariant.fit in
+    let fit : AllByRecursion (IsWired net.wires) net.nodes = subst (λ (d : Circuit). AllByRecursion (IsWired d.wires) d.nodes) c.net.view_is c.net.invariant.fit in
     let some : 0 < length net.nodes = subst (λ (d : Circuit). 0 < length d.nodes) c.net.view_is c.net.invariant.some in
     on_ok_weaker c.list_node.result (λ _. visited_few net fit c.requires.closed some c.args.self.now c.requires.walks c.requires.left) c.list_node.ensures.sized

@@ -1,0 +1,11 @@
+pub mod Totals
+pub mod Machines
+pub mod Items
+pub mod Turns
+pub mod SmallKinds
+pub mod Projections
+pub mod SeqKind
+pub mod Sides
+pub mod Crossings
+pub mod DwKind
+pub mod EachKind
