@@ -1,5 +1,5 @@
 -- The traces of each kind follow its counts.
-use Rattle.std.proofs.Common.{◌≡◌, ◌↔◌, ℕ, ◌<◌, ◌≤◌, List, [], ◌∷◌, ◌++◌, arith}
+use Rattle.std.proofs.Common.{◌↔◌, ℕ, List, [], ◌∷◌, ◌++◌, arith}
 use Rattle.cmd_tree.specs.Rounds.{counts}
 use Rattle.cmd_tree.proofs.RoundsPorts.{rounds_ports}
 use Rattle.cmd_tree.proofs.RoundsRule.{follows_end, follows_last, follows_start}
@@ -27,10 +27,14 @@ kind_counts (Seq k) t h = seq_counts k h t
 pub kind_empty : (kind : Kind) → IsWide kind → KindTrace kind []
 kind_empty kind h = (kind_counts kind [] h).1 tt
 
-pub kind_push : (kind : Kind) (t : List ℕ) (p : ℕ) → IsWide kind → KindTrace kind (t ++ p ∷ []) ↔ (KindTrace kind t × KindAt kind (counts t) p)
+pub kind_push : (kind : Kind) (t : List ℕ) (p : ℕ) → IsWide kind → KindTrace kind (t ++ p ∷ [])
+    ↔ (KindTrace kind t × KindAt kind (counts t) p)
 kind_push kind t p h =
     let whole = kind_counts kind (t ++ p ∷ []) h in
     let front = kind_counts kind t h in (
-      λ k. (front.1 (follows_start (λ u p. KindAt kind (counts u) p) [] t p (whole.0 k)), follows_last (λ u p. KindAt kind (counts u) p) [] t p (whole.0 k)),
+      λ k. (
+        front.1 (follows_start (λ u p. KindAt kind (counts u) p) [] t p (whole.0 k)),
+        follows_last (λ u p. KindAt kind (counts u) p) [] t p (whole.0 k),
+      ),
       λ k. whole.1 (follows_end (λ u p. KindAt kind (counts u) p) [] t p (front.0 k.0) k.1),
     )

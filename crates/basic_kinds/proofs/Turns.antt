@@ -1,5 +1,5 @@
 -- Processes that take one symbol at a time: two items in turn, one item once, and a toggle.
-use Rattle.std.proofs.Common.{◌≡◌, ◌↔◌, ◌⊎◌, inl, inr, ℕ, zero, suc, ◌+◌, ◌<◌, ◌≤◌, List, [], ◌∷◌, ◌++◌, refl, sym, ap, ◌∙◌, subst, arith, Option, Some, None}
+use Rattle.std.proofs.Common.{◌≡◌, ◌↔◌, ◌⊎◌, inl, inr, ℕ, suc, ◌+◌, ◌<◌, List, [], ◌∷◌, refl, sym, ap, ◌∙◌, subst, arith, Some, None}
 use Rattle.cmd_tree.specs.declared.tree.Mark.{Mark}
 use Rattle.cmd_tree.specs.declared.tree.Proc.{Proc}
 use Rattle.cmd_tree.specs.Tree.{TItem, TSeq, Done, Then}
@@ -10,15 +10,17 @@ use Rattle.cmd_tree.specs.Residual.{FirstOf, Next}
 use Rattle.cmd_tree.specs.Rounds.{counts, naught, Follows}
 use Rattle.cmd_tree.proofs.Phases.{Grew}
 use Rattle.basic_kinds.specs.KindTraces.{one, again, once}
-use Rattle.basic_kinds.proofs.Items.{Opens, one_opens}
+use Rattle.basic_kinds.proofs.Items.{Opens}
 use Rattle.basic_kinds.proofs.Machines.{Machine, Ready, traces_ready, Singles, at_rest, single_steps, single_goes}
 
 -- ---- a sequence begins as its first item
 
-first_then : (i : TItem) (A : ℕ → Type 0) → Opens i A → (s : TSeq) (ms : List Mark) (r : TSeq) → FirstOf (Then i s) ms r → (m : Mark) × (ms ≡ m ∷ []) × (r ≡ s) × A m.sym.0
+first_then : (i : TItem) (A : ℕ → Type 0) → Opens i A → (s : TSeq) (ms : List Mark) (r : TSeq)
+    → FirstOf (Then i s) ms r → (m : Mark) × (ms ≡ m ∷ []) × (r ≡ s) × A m.sym.0
 first_then i A k s ms r h = let g = k.forth ms h.0 h.1 in (g.0, g.1, h.2 ∙ ap (λ q. join q s) g.2, g.3)
 
-then_first : (i : TItem) (A : ℕ → Type 0) → Opens i A → (s : TSeq) (a : ℕ) → A a → (m : Mark) × (m.sym.0 ≡ a) × FirstOf (Then i s) (m ∷ []) s
+then_first : (i : TItem) (A : ℕ → Type 0) → Opens i A → (s : TSeq) (a : ℕ) → A a → (m : Mark) × (m.sym.0 ≡ a)
+    × FirstOf (Then i s) (m ∷ []) s
 then_first i A k s a h = let g = k.back a h in (g.0, g.1, (Done, g.2, refl))
 
 -- ---- two items in turn
@@ -58,11 +60,13 @@ module _ (i j : TItem) (A B : ℕ → Type 0) (F G : (ℕ → ℕ) → ℕ) wher
     singles : Singles (again body) Turn rest Goes
     singles = record { next = next; come = come }
       where
-        next : (q : Turn) (ms : List Mark) (s : TSeq) → Next (Some body) (rest q) ms s → (m : Mark) × (ms ≡ m ∷ []) × (r : Turn) × (s ≡ rest r) × Goes q m.sym.0 r
+        next : (q : Turn) (ms : List Mark) (s : TSeq) → Next (Some body) (rest q) ms s → (m : Mark)
+            × (ms ≡ m ∷ []) × (r : Turn) × (s ≡ rest r) × Goes q m.sym.0 r
         next First ms s h = let g = first_then i A oi (Then j Done) ms s h in (g.0, g.1, Second, g.2, g.3)
         next Second ms s h = let g = first_then j B oj Done ms s h in (g.0, g.1, First, g.2, g.3)
 
-        come : (q : Turn) (a : ℕ) (r : Turn) → Goes q a r → (m : Mark) × (m.sym.0 ≡ a) × Next (Some body) (rest q) (m ∷ []) (rest r)
+        come : (q : Turn) (a : ℕ) (r : Turn) → Goes q a r → (m : Mark) × (m.sym.0 ≡ a)
+            × Next (Some body) (rest q) (m ∷ []) (rest r)
         come First a First h = absurd h
         come First a Second h = then_first i A oi (Then j Done) a h
         come Second a First h = then_first j B oj Done a h
@@ -77,10 +81,12 @@ module _ (i j : TItem) (A B : ℕ → Type 0) (F G : (ℕ → ℕ) → ℕ) wher
       sound = sound;
     }
       where
-        sound : (c d : ℕ → ℕ) (q : Turn) (a : ℕ) (r : Turn) → Stands c q → Goes q a r → Grew c a d → TurnAt c a × Stands d r
+        sound : (c d : ℕ → ℕ) (q : Turn) (a : ℕ) (r : Turn) → Stands c q → Goes q a r → Grew c a d
+            → TurnAt c a × Stands d r
         sound c d First a First s h g = absurd h
         sound c d First a Second s h g = let n = k.first c d a h g in (inl (h, s), omega (arith, s, n.0, n.1))
-        sound c d Second a First s h g = let n = k.second c d a h g in (inr (h, omega (arith, s)), omega (arith, s, n.0, n.1))
+        sound c d Second a First s h g = let n =
+            k.second c d a h g in (inr (h, omega (arith, s)), omega (arith, s, n.0, n.1))
         sound c d Second a Second s h g = absurd h
 
     ready : Ready (again body) Turn (at_rest (again body) Turn rest Goes) Goes TurnAt Stands
@@ -89,8 +95,10 @@ module _ (i j : TItem) (A B : ℕ → Type 0) (F G : (ℕ → ℕ) → ℕ) wher
     ready c Second a s (inl h) = absurd (omega (arith, s, h.1))
     ready c Second a s (inr h) = (First, h.0)
 
-    pub turns : IsItem i → IsItem j → (t : List ℕ) → TraceOf (again body) t ↔ Follows (λ u a. TurnAt (counts u) a) [] t
-    turns wi wj = traces_ready (again body) Turn (at_rest (again body) Turn rest Goes) Goes TurnAt Stands (refl, tt, (wi, (wj, tt))) First machine ready
+    pub turns : IsItem i → IsItem j → (t : List ℕ) → TraceOf (again body) t
+        ↔ Follows (λ u a. TurnAt (counts u) a) [] t
+    turns wi wj = traces_ready (again body) Turn (at_rest (again body) Turn rest Goes) Goes TurnAt Stands
+        (refl, tt, (wi, (wj, tt))) First machine ready
 
 -- ---- one item, once
 
@@ -122,16 +130,19 @@ module _ (i : TItem) (A : ℕ → Type 0) (F : (ℕ → ℕ) → ℕ) where
     singles_once : Singles (once lead) Turn rest_once GoesOnce
     singles_once = record { next = next; come = come }
       where
-        next : (q : Turn) (ms : List Mark) (s : TSeq) → Next None (rest_once q) ms s → (m : Mark) × (ms ≡ m ∷ []) × (r : Turn) × (s ≡ rest_once r) × GoesOnce q m.sym.0 r
+        next : (q : Turn) (ms : List Mark) (s : TSeq) → Next None (rest_once q) ms s → (m : Mark)
+            × (ms ≡ m ∷ []) × (r : Turn) × (s ≡ rest_once r) × GoesOnce q m.sym.0 r
         next First ms s h = let g = first_then i A oi Done ms s h in (g.0, g.1, Second, g.2, g.3)
         next Second ms s h = absurd h
 
-        come : (q : Turn) (a : ℕ) (r : Turn) → GoesOnce q a r → (m : Mark) × (m.sym.0 ≡ a) × Next None (rest_once q) (m ∷ []) (rest_once r)
+        come : (q : Turn) (a : ℕ) (r : Turn) → GoesOnce q a r → (m : Mark) × (m.sym.0 ≡ a)
+            × Next None (rest_once q) (m ∷ []) (rest_once r)
         come First a First h = absurd h
         come First a Second h = then_first i A oi Done a h
         come Second a r h = absurd h
 
-    machine_once : Machine (once lead) Turn (at_rest (once lead) Turn rest_once GoesOnce) GoesOnce OnceAt StandsOnce First
+    machine_once : Machine (once lead) Turn (at_rest (once lead) Turn rest_once GoesOnce) GoesOnce OnceAt
+        StandsOnce First
     machine_once = record {
       begins = refl;
       stands = k.begins;
@@ -140,17 +151,21 @@ module _ (i : TItem) (A : ℕ → Type 0) (F : (ℕ → ℕ) → ℕ) where
       sound = sound;
     }
       where
-        sound : (c d : ℕ → ℕ) (q : Turn) (a : ℕ) (r : Turn) → StandsOnce c q → GoesOnce q a r → Grew c a d → OnceAt c a × StandsOnce d r
+        sound : (c d : ℕ → ℕ) (q : Turn) (a : ℕ) (r : Turn) → StandsOnce c q → GoesOnce q a r → Grew c a d
+            → OnceAt c a × StandsOnce d r
         sound c d First a First s h g = absurd h
         sound c d First a Second s h g = ((h, s), omega (arith, s, k.first c d a h g))
         sound c d Second a r s h g = absurd h
 
-    ready_once : Ready (once lead) Turn (at_rest (once lead) Turn rest_once GoesOnce) GoesOnce OnceAt StandsOnce
+    ready_once : Ready (once lead) Turn (at_rest (once lead) Turn rest_once GoesOnce) GoesOnce OnceAt
+        StandsOnce
     ready_once c First a s h = (Second, h.0)
     ready_once c Second a s h = absurd (omega (arith, s, h.1))
 
-    pub turn_once : IsItem i → (t : List ℕ) → TraceOf (once lead) t ↔ Follows (λ u a. OnceAt (counts u) a) [] t
-    turn_once wi = traces_ready (once lead) Turn (at_rest (once lead) Turn rest_once GoesOnce) GoesOnce OnceAt StandsOnce (refl, (wi, tt), tt) First machine_once ready_once
+    pub turn_once : IsItem i → (t : List ℕ) → TraceOf (once lead) t
+        ↔ Follows (λ u a. OnceAt (counts u) a) [] t
+    turn_once wi = traces_ready (once lead) Turn (at_rest (once lead) Turn rest_once GoesOnce) GoesOnce
+        OnceAt StandsOnce (refl, (wi, tt), tt) First machine_once ready_once
 
 -- ---- one symbol, and each of two others in turn
 
@@ -223,7 +238,12 @@ module _ (i l m : Mark) where
 
         come : (q : Quarter) (a : ℕ) (r : Quarter) → GoesToggle q a r
             → (x : Mark) × (x.sym.0 ≡ a) × Next (Some toggle) (rest_toggle q) (x ∷ []) (rest_toggle r)
-        come q a r h = (mark_at q, sym h.0, subst (λ x. Next (Some toggle) (rest_toggle q) (mark_at q ∷ []) (rest_toggle x)) (sym h.1) (first q))
+        come q a r h = (
+          mark_at q,
+          sym h.0,
+          subst (λ x. Next (Some toggle) (rest_toggle q) (mark_at q ∷ []) (rest_toggle x)) (sym h.1)
+              (first q),
+        )
 
     -- each mark that comes leaves the counts of the two others
     pub after : (c d : ℕ → ℕ) (q : Quarter) → StandsToggle c q → Grew c (mark_at q).sym.0 d
@@ -249,7 +269,8 @@ module _ (i l m : Mark) where
         let v = g.elsewhere l.sym.0 lm in
         (inr (inr (refl, omega (arith, s), s.1)), (omega (arith, s, h, u, v), omega (arith, s, h, u, v)))
 
-    machine_toggle : Machine proc_toggle Quarter (at_rest proc_toggle Quarter rest_toggle GoesToggle) GoesToggle ToggleAt StandsToggle Q0
+    machine_toggle : Machine proc_toggle Quarter (at_rest proc_toggle Quarter rest_toggle GoesToggle)
+        GoesToggle ToggleAt StandsToggle Q0
     machine_toggle = record {
       begins = refl;
       stands = (refl, refl);
@@ -258,12 +279,14 @@ module _ (i l m : Mark) where
       sound = sound;
     }
       where
-        sound : (c d : ℕ → ℕ) (q : Quarter) (a : ℕ) (r : Quarter) → StandsToggle c q → GoesToggle q a r → Grew c a d → ToggleAt c a × StandsToggle d r
+        sound : (c d : ℕ → ℕ) (q : Quarter) (a : ℕ) (r : Quarter) → StandsToggle c q → GoesToggle q a r
+            → Grew c a d → ToggleAt c a × StandsToggle d r
         sound c d q a r s h g =
             let k = after c d q s (subst (λ x. Grew c x d) h.0 g) in
             (subst (λ x. ToggleAt c x) (sym h.0) k.0, subst (λ x. StandsToggle d x) (sym h.1) k.1)
 
-    ready_toggle : Ready proc_toggle Quarter (at_rest proc_toggle Quarter rest_toggle GoesToggle) GoesToggle ToggleAt StandsToggle
+    ready_toggle : Ready proc_toggle Quarter (at_rest proc_toggle Quarter rest_toggle GoesToggle) GoesToggle
+        ToggleAt StandsToggle
     ready_toggle c Q0 a s (inl h) = (Q1, (h.0, refl))
     ready_toggle c Q0 a s (inr (inl h)) = absurd (omega (arith, s, h.1))
     ready_toggle c Q0 a s (inr (inr h)) = absurd (omega (arith, s, h.1))
@@ -281,5 +304,7 @@ module _ (i l m : Mark) where
     one_whole x = omega arith
 
     pub toggle_turns : (t : List ℕ) → TraceOf proc_toggle t ↔ Follows (λ u a. ToggleAt (counts u) a) [] t
-    toggle_turns = traces_ready proc_toggle Quarter (at_rest proc_toggle Quarter rest_toggle GoesToggle) GoesToggle ToggleAt StandsToggle
-        (refl, tt, (one_whole i, (one_whole l, (one_whole i, (one_whole m, tt))))) Q0 machine_toggle ready_toggle
+    toggle_turns = traces_ready proc_toggle Quarter (at_rest proc_toggle Quarter rest_toggle GoesToggle)
+        GoesToggle ToggleAt StandsToggle
+        (refl, tt, (one_whole i, (one_whole l, (one_whole i, (one_whole m, tt))))) Q0 machine_toggle
+        ready_toggle

@@ -6,7 +6,8 @@ use Rattle.basic_kinds.specs.declared.shape.Shape.{Shape}
 use Rattle.basic_kinds.specs.declared.kind.Kind.{Kind}
 use Rattle.basic_kinds.specs.declared.kind.Kind.TheVariants.{Wire, Iwire, Source, Sink, Fork, C, Merge, Toggle, Dw, Seq}
 
--- ---- a decision wait: its rows are the ports from 0, its columns those from rows, its outputs those after both
+-- ---- a decision wait: its rows are the ports from 0, its columns those from rows, its outputs those after
+-- both
 
 -- the row and the column of the crossing x
 abbrev pub row_of : Shape → ℕ → ℕ
@@ -55,7 +56,8 @@ pub record OutMay (s : Shape) (c : ℕ → ℕ) (p : ℕ) : Type 0 where
   pub row : RowPends s c (row_of s crossing)
   pub col : ColPends s c (col_of s crossing)
 
--- ---- a SEQ of k requests: the requests are the ports from 0, the token is k, the grants are those from k + 1
+-- ---- a SEQ of k requests: the requests are the ports from 0, the token is k, the grants are those from k
+-- + 1
 
 -- how many grants have come
 abbrev pub grants_in : ℕ → (ℕ → ℕ) → ℕ
@@ -81,7 +83,8 @@ KindAt (Fork n) c p = RoundsAt 1 n c p
 KindAt (C n) c p = RoundsAt n 1 c p
 KindAt (Merge n) c p = ((p < n) × (total n c ≡ c n)) ⊎ ((p ≡ n) × (c n < total n c))
 KindAt Toggle c p =
-    ((p ≡ 0) × (c 0 ≡ c 1 + c 2)) ⊎ (((p ≡ 1) × (c 1 + c 2 < c 0) × (c 1 ≡ c 2)) ⊎ ((p ≡ 2) × (c 1 + c 2 < c 0) × (c 1 ≡ suc (c 2))))
+    ((p ≡ 0) × (c 0 ≡ c 1 + c 2)) ⊎ (((p ≡ 1) × (c 1 + c 2 < c 0) × (c 1 ≡ c 2))
+    ⊎ ((p ≡ 2) × (c 1 + c 2 < c 0) × (c 1 ≡ suc (c 2))))
 KindAt (Dw s) c p = RowMay s c p ⊎ (ColMay s c p ⊎ OutMay s c p)
 KindAt (Seq k) c p = ((p < k) × (c p ≡ c (k + 1 + p))) ⊎ (((p ≡ k) × (c k ≡ grants_in k c)) ⊎ GrantMay k c p)
 

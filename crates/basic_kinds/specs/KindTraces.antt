@@ -34,7 +34,8 @@ any_one ms = TAlt (seqs_of (map (λ m. Then (one m) Done) ms))
 abbrev pub crossings : ℕ → ℕ → List (ℕ × ℕ) → List TSeq
 crossings rows k [] = []
 crossings rows k (p ∷ ps) =
-    Then (TBurst (input p.0 ∷ input (rows + p.1) ∷ [])) (Then (one (output k)) Done) ∷ crossings rows (k + 1) ps
+    Then (TBurst (input p.0 ∷ input (rows + p.1) ∷ [])) (Then (one (output k)) Done) ∷ crossings rows (k + 1)
+    ps
 
 -- one of the sequences; a single one is no choice
 abbrev pub choice_of : List TSeq → TSeq
@@ -59,7 +60,8 @@ procs_of (Fork n) = again (all_then_all 1 n) ∷ []
 procs_of (C n) = again (all_then_all n 1) ∷ []
 procs_of (Merge n) = again (Then (any_one (map input (range_with_len 0 n))) (Then (one (output n)) Done)) ∷ []
 procs_of Toggle =
-    again (Then (one (input 0)) (Then (one (output 1)) (Then (one (input 0)) (Then (one (output 2)) Done)))) ∷ []
+    again (Then (one (input 0)) (Then (one (output 1)) (Then (one (input 0)) (Then (one (output 2)) Done))))
+    ∷ []
 procs_of (Dw s) = again (choice_of (crossings s.rows (s.rows + s.cols) s.cross)) ∷ []
 procs_of (Seq k) = map (granted k) (range_with_len 0 k) ++ grants k ∷ []
 

@@ -1,5 +1,5 @@
 //! The canonical text of a command, printed and put.
-#![tactic(auto, using(di_io::proofs::Prints::prints_twice, di_io::proofs::Prints::prints_none))]
+#![tactic(auto, using(di_io::proofs::Prints::printing))]
 
 ghost use Rattle.std.specs.Prelude.{◌≡◌, ◌≤◌, ◌++◌, [], Some, codes, slice_index_or, IfOk, OnOk, OnErr};
 ghost use Rattle.cmd_tree.specs.View.{item_of, seqs_of};
@@ -15,11 +15,14 @@ use std::alloc::{AllocError, Global};
 /// Puts the canonical text of a command: one line without blanks. It takes no memory.
 ///
 /// `Failed` where the sink failed: then a front of the text was put.
+#[tactic(auto, using(di_io::proofs::Prints::front_at), unfolding(di_io::specs::Printing::prints))]
 pub fn put_command<S: Sink>(command: &Command, sink: &mut S) -> Result<(), PutFault>
     ensures later { S.faults sink.old ≤ S.faults sink.new }
-    ensures ok { OnOk result (Gains (S.written sink.old) (S.written sink.new) (procs_text command.now.names command.now.procs)) }
+    ensures ok { OnOk result (Gains (S.written sink.old) (S.written sink.new)
+        (procs_text command.now.names command.now.procs)) }
     ensures failed { OnErr result (Rose (S.faults sink.old) (S.faults sink.new)) }
-    ensures front { OnErr result (GainsFront (S.written sink.old) (S.written sink.new) (procs_text command.now.names command.now.procs)) }
+    ensures front { OnErr result (GainsFront (S.written sink.old) (S.written sink.new)
+        (procs_text command.now.names command.now.procs)) }
 {
     let mut printer = Printer::new(sink);
     print_command(command, &mut printer);
@@ -34,7 +37,7 @@ pub fn print_command<S: Sink>(command: &Command, printer: &mut Printer<'_, S>)
     print_procs(&command.names, command.procs.as_slice(), printer);
 }
 
-#[tactic(auto, using(di_io::proofs::Prints::prints_twice, di_io::proofs::Prints::prints_none, crate::proofs::Joined::procs_next, crate::proofs::Joined::procs_none))]
+#[tactic(auto, using(di_io::proofs::Prints::printing, crate::proofs::Joined::joined))]
 fn print_procs<S: Sink>(names: &NameSet, procs: &[Proc], printer: &mut Printer<'_, S>)
     ensures { printer.new ≡ prints printer.old (procs_text names.now procs.now) }
 {
@@ -110,7 +113,7 @@ fn print_bare<S: Sink>(names: &NameSet, item: &Item, printer: &mut Printer<'_, S
     }
 }
 
-#[tactic(auto, using(di_io::proofs::Prints::prints_twice, di_io::proofs::Prints::prints_none, crate::proofs::Joined::seqs_next, crate::proofs::Joined::seqs_none))]
+#[tactic(auto, using(di_io::proofs::Prints::printing, crate::proofs::Joined::joined))]
 fn print_seqs<S: Sink>(names: &NameSet, seqs: &[Seq], printer: &mut Printer<'_, S>)
     ensures { printer.new ≡ prints printer.old (seqs_text names.now (seqs_of seqs.now)) }
 {
@@ -123,7 +126,7 @@ fn print_seqs<S: Sink>(names: &NameSet, seqs: &[Seq], printer: &mut Printer<'_, 
 }
 
 #[cycle(print)]
-#[tactic(auto, using(di_io::proofs::Prints::prints_twice, di_io::proofs::Prints::prints_none, crate::proofs::Joined::items_next, crate::proofs::Joined::items_none))]
+#[tactic(auto, using(di_io::proofs::Prints::printing, crate::proofs::Joined::joined))]
 fn print_seq<S: Sink>(names: &NameSet, seq: &Seq, printer: &mut Printer<'_, S>)
     ensures { printer.new ≡ prints printer.old (seq_text names.now seq.now) }
 {
@@ -136,7 +139,7 @@ fn print_seq<S: Sink>(names: &NameSet, seq: &Seq, printer: &mut Printer<'_, S>)
 }
 
 #[cycle(print)]
-#[tactic(auto, using(di_io::proofs::Prints::prints_twice, di_io::proofs::Prints::prints_none, crate::proofs::Joined::seqs_next, crate::proofs::Joined::seqs_none))]
+#[tactic(auto, using(di_io::proofs::Prints::printing, crate::proofs::Joined::joined))]
 fn print_item<S: Sink>(names: &NameSet, item: &Item, printer: &mut Printer<'_, S>)
     ensures { printer.new ≡ prints printer.old (item_text names.now (item_of item.now)) }
 {
@@ -169,7 +172,7 @@ fn print_burst<S: Sink>(names: &NameSet, marks: &[Mark], printer: &mut Printer<'
     }
 }
 
-#[tactic(auto, using(di_io::proofs::Prints::prints_twice, di_io::proofs::Prints::prints_none, crate::proofs::Joined::marks_at, crate::proofs::Joined::marks_none))]
+#[tactic(auto, using(di_io::proofs::Prints::printing, crate::proofs::Joined::joined))]
 fn print_marks<S: Sink>(names: &NameSet, marks: &[Mark], printer: &mut Printer<'_, S>)
     ensures { printer.new ≡ prints printer.old (marks_led names.now [] marks.now) }
 {
@@ -181,7 +184,8 @@ fn print_marks<S: Sink>(names: &NameSet, marks: &[Mark], printer: &mut Printer<'
     }
 }
 
-fn print_mark<S: Sink>(names: &NameSet, mark: &Mark, printer: &mut Printer<'_, S>)
+/// Prints a mark: the name of its symbol and its sign.
+pub fn print_mark<S: Sink>(names: &NameSet, mark: &Mark, printer: &mut Printer<'_, S>)
     ensures { printer.new ≡ prints printer.old (mark_text names.now mark.now) }
 {
     printer.print(name_bytes(names, mark.sym));
@@ -240,111 +244,5 @@ impl Sink for VecSink {
                 Err(PutFault::Failed)
             }
         }
-    }
-}
-
-#[cfg(test)]
-mod tests {
-    use super::*;
-    use cmd_tree::Name;
-    use di_io::MemSink;
-    use sqlite_items::Items;
-    use std::test::Fail;
-
-    fn marks(alloc: Global, signs: &[(u32, Dir)]) -> Result<Item, AllocError> {
-        let marks = signs
-            .iter()
-            .map(|sign| Mark {
-                sym: Sym(sign.0),
-                dir: sign.1,
-            })
-            .collect(alloc)?;
-        Ok(Item::Burst(Items::from_vec(marks)))
-    }
-
-    fn seq(alloc: Global, item: Item) -> Result<Seq, AllocError> {
-        let items = vec![in alloc; item]?;
-        Ok(Seq {
-            items: Items::from_vec(items),
-        })
-    }
-
-    fn choice(alloc: Global, first: Item, second: Item) -> Result<Item, AllocError> {
-        let seqs = vec![in alloc; seq(alloc, first)?, seq(alloc, second)?]?;
-        Ok(Item::Alt(Items::from_vec(seqs)))
-    }
-
-    fn command(alloc: Global) -> Result<Command, AllocError> {
-        let mut names = NameSet::new(alloc);
-        names.insert(Name::new(alloc, b"a7")?)?;
-        let burst = Items::from_slice(
-            alloc,
-            &[Mark {
-                sym: Sym(0),
-                dir: Dir::Input,
-            }],
-        )?;
-        let body = vec![in alloc; Item::Burst(burst)]?;
-        let procs = vec![in alloc;
-            Proc {
-                lead: None,
-                body: Some(Seq {
-                    items: Items::from_vec(body)
-                })
-            },
-        ]?;
-        Ok(Command {
-            names,
-            procs: Items::from_vec(procs),
-        })
-    }
-
-    #[test]
-    fn writes_a_command(rt: HostRuntime) -> Result<(), Fail> {
-        let command = command(rt.alloc())?;
-        let text = write_command(rt.alloc(), &command)?;
-        assert_eq!(rt; text.as_slice(), b"pref*[a7?]".as_slice());
-        let mut sink = MemSink::new(rt.alloc(), 20, Vec::new(rt.alloc()))?;
-        assert!(rt; put_command(&command, &mut sink).is_ok());
-        assert_eq!(rt; sink.bytes(), b"pref*[a7?]".as_slice());
-        Ok(())
-    }
-
-    #[test]
-    fn writes_bodies(rt: HostRuntime) -> Result<(), Fail> {
-        let mut names = NameSet::new(rt.alloc());
-        for text in ["a", "b", "c"] {
-            names.insert(Name::new(rt.alloc(), text.as_bytes())?)?;
-        }
-        let one = marks(rt.alloc(), &[(0, Dir::Input)])?;
-        let two = marks(rt.alloc(), &[(1, Dir::Output), (2, Dir::Output)])?;
-        let lone = seq(rt.alloc(), choice(rt.alloc(), one, two)?)?;
-        let three = marks(rt.alloc(), &[(2, Dir::Input)])?;
-        let four = marks(rt.alloc(), &[(0, Dir::Output)])?;
-        let lead = seq(rt.alloc(), choice(rt.alloc(), three, four)?)?;
-        let burst = marks(rt.alloc(), &[(0, Dir::Input), (1, Dir::Input)])?;
-        let last = marks(rt.alloc(), &[(2, Dir::Output)])?;
-        let body = Seq {
-            items: Items::from_vec(vec![in rt.alloc(); burst, last]?),
-        };
-        let procs = vec![in rt.alloc();
-            Proc {
-                lead: None,
-                body: Some(lone)
-            },
-            Proc {
-                lead: Some(lead),
-                body: Some(body)
-            },
-        ]?;
-        let mut sink = MemSink::new(rt.alloc(), 80, Vec::new(rt.alloc()))?;
-        let command = Command {
-            names,
-            procs: Items::from_vec(procs),
-        };
-        assert!(rt; put_command(&command, &mut sink).is_ok());
-        let text = "pref*[a?|(b!||c!)]||pref[(c?|a!);*[(a?||b?);c!]]";
-        assert_eq!(rt; sink.bytes(), text.as_bytes());
-        Ok(())
     }
 }

@@ -1,14 +1,14 @@
 -- Texts printed one after another, and what a printer has of them.
-use Rattle.std.proofs.Common.{◌≡◌, ℕ, ◌≤◌, ◌<◌, ◌+◌, Bool, true, false, List, [], ◌++◌, Option, refl, ap, ◌∙◌, sym, append_assoc, arith, subst, OnOk, OnErr}
+use Rattle.std.proofs.Common.{◌≡◌, ℕ, ◌≤◌, Bool, true, false, List, [], ◌++◌, Option, refl, ap, ◌∙◌, sym, append_assoc, arith, subst, OnErr}
 use Rattle.std.proofs.lemmas.List.{append-nil}
 use Rattle.std.specs.Prelude.{Result}
 use Rattle.di_io.specs.declared.PutFault.{PutFault}
 use Rattle.di_io.specs.Faults.{Rose}
 use Rattle.di_io.specs.Written.{Gains, GainsFront}
 use Rattle.di_io.specs.Printing.{Printing, prints}
-use Rattle.di_io.specs.PrinterView.{Has, Held}
+use Rattle.di_io.specs.Mirror.Printer.{Has}
 use Rattle.di_io.proofs.Rises.{rose_after}
-use Rattle.di_io.proofs.Puts.{gains_none, gains_then, front_then, front_more}
+use Rattle.di_io.proofs.Puts.{gains_then, front_then, front_more}
 
 pub prints_twice : (p : Printing) (s t : List ℕ) → prints (prints p s) t ≡ prints p (s ++ t)
 unfolding prints
@@ -18,15 +18,15 @@ pub prints_none : (p : Printing) → prints p [] ≡ p
 unfolding prints
 prints_none p = ap (λ (u : List ℕ). record p { said = u }) (append-nil p.said)
 
--- a printer that was just made
-pub has_none : (now : Option (List ℕ)) (count name : ℕ)
-    → Has (record { written = now; faults = count; sink = name; said = [] }) now count [] false
-has_none now count name = record {
-  later = omega arith;
-  kept = λ _. record { put = []; gained = gains_none now; joins = refl };
-  rose = λ e. absurd (cc);
-  front = λ e. absurd (cc);
-}
+-- pieces that are printed one after another, some of them empty
+pub ruleset printing = (prints_twice, prints_none)
+
+-- what is still to be printed, and its first piece
+pub prints_rest : (p q r : Printing) (now piece rest : List ℕ) → now ≡ piece ++ rest → q ≡ prints p piece
+    → prints p now ≡ r → prints q rest ≡ r
+prints_rest p q r now piece rest opened printed whole =
+    ap (λ (a : Printing). prints a rest) printed ∙ prints_twice p piece rest
+    ∙ ap (prints p) (sym opened) ∙ whole
 
 -- more is held
 pub has_more : (p : Printing) (now : Option (List ℕ)) (count : ℕ) (held text : List ℕ) (failed : Bool)
@@ -63,7 +63,8 @@ has_put p old now before count piece h g later =
 
 -- it could not be put
 pub has_failed : (p : Printing) (old now : Option (List ℕ)) (before count : ℕ) (piece : List ℕ)
-    → Has p old before piece false → GainsFront old now piece → before ≤ count → Rose before count → Has p now count [] true
+    → Has p old before piece false → GainsFront old now piece → before ≤ count → Rose before count
+    → Has p now count [] true
 has_failed p old now before count piece h g later rose =
     let k = h.kept refl in
     record {
@@ -76,8 +77,8 @@ has_failed p old now before count piece h g later rose =
     }
 
 -- a printing, with this text added to what was said
-pub said_next : (written : Option (List ℕ)) (faults sink : ℕ) (before text after : List ℕ) → after ≡ before ++ text
-    → ◌≡◌ {A = Printing} (record { written = written; faults = faults; sink = sink; said = after })
+pub said_next : (written : Option (List ℕ)) (faults sink : ℕ) (before text after : List ℕ)
+    → after ≡ before ++ text → ◌≡◌ {A = Printing} (record { written = written; faults = faults; sink = sink; said = after })
     (prints (record { written = written; faults = faults; sink = sink; said = before }) text)
 unfolding prints
 said_next written faults sink before text after e =
@@ -87,29 +88,15 @@ said_next written faults sink before text after e =
 pub has_next : (p q : Printing) (now : Option (List ℕ)) (count : ℕ) (held text more : List ℕ) (failed : Bool)
     → q ≡ prints p text → more ≡ held ++ text → Has p now count held failed → Has q now count more failed
 has_next p q now count held text more failed same joined h =
-    let said : Has (prints p text) now count (held ++ text) failed = has_more p now count held text failed h in
+    let said : Has (prints p text) now count (held ++ text) failed =
+    has_more p now count held text failed h in
     rw (same, joined) said
 
--- One text was printed by a new printer, and then it was finished: what holds from its sink's start.
-pub later_at : (p : Printing) (old : Option (List ℕ)) (faults sink : ℕ) (text : List ℕ) (count : ℕ)
-    → p ≡ prints (record { written = old; faults = faults; sink = sink; said = [] }) text → p.faults ≤ count → faults ≤ count
-unfolding prints
-later_at p old faults sink text count e h = omega (arith, ap (λ (q : Printing). q.faults) e)
-
-pub ok_at : (r : Result (Unit {0}) PutFault) (p : Printing) (old now : Option (List ℕ)) (faults sink : ℕ) (text : List ℕ)
-    → p ≡ prints (record { written = old; faults = faults; sink = sink; said = [] }) text → OnOk r (Gains p.written now p.said)
-    → OnOk r (Gains old now text)
-unfolding prints
-ok_at r p old now faults sink text e h = let P : Printing → Type 0 = λ q. OnOk r (Gains q.written now q.said) in subst P e h
-
-pub failed_at : (r : Result (Unit {0}) PutFault) (p : Printing) (old : Option (List ℕ)) (faults sink : ℕ) (text : List ℕ) (count : ℕ)
-    → p ≡ prints (record { written = old; faults = faults; sink = sink; said = [] }) text → OnErr r (Rose p.faults count)
-    → OnErr r (Rose faults count)
-unfolding prints
-failed_at r p old faults sink text count e h = let P : Printing → Type 0 = λ q. OnErr r (Rose q.faults count) in subst P e h
-
-pub front_at : (r : Result (Unit {0}) PutFault) (p : Printing) (old now : Option (List ℕ)) (faults sink : ℕ) (text : List ℕ)
-    → p ≡ prints (record { written = old; faults = faults; sink = sink; said = [] }) text → OnErr r (GainsFront p.written now p.said)
-    → OnErr r (GainsFront old now text)
-unfolding prints
-front_at r p old now faults sink text e h = let P : Printing → Type 0 = λ q. OnErr r (GainsFront q.written now q.said) in subst P e h
+-- What `finish` says of a front, said from the start of the sink.
+pub front_at : (r : Result (Unit {0}) PutFault) (a b c d : Option (List ℕ)) (t u : List ℕ)
+    → OnErr r (GainsFront a b t) → a ≡ c → b ≡ d → t ≡ u → OnErr r (GainsFront c d u)
+front_at r a b c d t u h e f same =
+    let P : List ℕ → Type 0 = λ v. OnErr r (GainsFront a b v) in
+    let Q : Option (List ℕ) → Type 0 = λ v. OnErr r (GainsFront a v u) in
+    let R : Option (List ℕ) → Type 0 = λ v. OnErr r (GainsFront v d u) in
+    subst R e (subst Q f (subst P same h))

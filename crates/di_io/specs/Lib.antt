@@ -3,4 +3,4 @@ pub mod Written
 pub mod MemShelf
 pub mod MemSink
 pub mod Printing
-pub mod PrinterView
+pub mod Mirror

@@ -1,8 +1,8 @@
 -- What was printed into a sink, piece after piece.
 use Rattle.std.specs.Prelude.{ℕ, List, ◌++◌, Option}
 
--- The bytes that the sink had written at the start, where it tells them, its count of faults then, the name of the
--- reference to it, and the text printed since.
+-- The bytes that the sink had written at the start, where it tells them, its count of faults then, the name
+-- of the reference to it, and the text printed since.
 pub record Printing : Type 0 where
   pub written : Option (List ℕ)
   pub faults : ℕ

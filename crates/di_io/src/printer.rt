@@ -3,7 +3,7 @@ ghost use Rattle.std.specs.Prelude.{◌≡◌, ◌≤◌, [], OnOk, OnErr};
 ghost use Rattle.di_io.specs.Faults.{Rose};
 ghost use Rattle.di_io.specs.Written.{Gains, GainsFront};
 ghost use Rattle.di_io.specs.Printing.{Printing, prints};
-ghost use Rattle.di_io.specs.PrinterView.{Has};
+ghost use Rattle.di_io.specs.Mirror.Printer.{Has};
 
 use crate::said::Said;
 use crate::{PutFault, Sink};
@@ -28,7 +28,7 @@ pub struct Printer<'a, S: Sink> {
 impl<'a, S: Sink> Model for Printer<'a, S> {
     ghost use Rattle.std.specs.Prelude.{◌≤◌, take};
     ghost use Rattle.di_io.specs.Printing.{Printing};
-    ghost use Rattle.di_io.specs.PrinterView.{Has};
+    ghost use Rattle.di_io.specs.Mirror.Printer.{Has};
 
     ghost Value = { Printing };
 
@@ -108,7 +108,8 @@ impl<'a, S: Sink> Printer<'a, S> {
         ensures later { self.entry.faults ≤ S.faults result.1.now }
         ensures ok { OnOk result.0 (Gains self.entry.written (S.written result.1.now) self.entry.said) }
         ensures failed { OnErr result.0 (Rose self.entry.faults (S.faults result.1.now)) }
-        ensures front { OnErr result.0 (GainsFront self.entry.written (S.written result.1.now) self.entry.said) }
+        ensures front { OnErr result.0
+            (GainsFront self.entry.written (S.written result.1.now) self.entry.said) }
     {
         let Printer {
             sink,

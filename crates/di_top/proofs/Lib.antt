@@ -4,7 +4,6 @@ pub mod OneNet
 pub mod JoinNet
 pub mod FormNet
 pub mod FormShapes
-pub mod Lines
 pub mod Compiling
 pub mod Endings
 pub mod FormAnswers

@@ -1,3 +1,2 @@
 pub mod NetText
-pub mod Ports
-pub mod Whole
+pub mod Mirror

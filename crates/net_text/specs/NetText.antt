@@ -1,8 +1,9 @@
 -- The text of a netlist.
-use Rattle.std.specs.Prelude.{ℕ, Bool, true, false, ◌+◌, List, [], ◌∷◌, ◌++◌, take, drop, flat_map, codes, decimal}
+use Rattle.std.specs.Prelude.{ℕ, Bool, true, false, ◌+◌, List, [], ◌∷◌, ◌++◌, take, drop, flat_map, codes}
 use Rattle.cmd_tree.specs.declared.command.Command.{Command}
 use Rattle.cmd_tree.specs.Limits.{marks_of_all}
 use Rattle.cmd_text.specs.Canonical.{procs_text}
+use Rattle.text_lines.specs.Lines.{worded, numbered_line}
 use Rattle.basic_kinds.specs.declared.shape.Shape.{Shape}
 use Rattle.basic_kinds.specs.declared.kind.Kind.{Kind}
 use Rattle.basic_kinds.specs.declared.kind.Kind.TheVariants.{Wire, Iwire, Source, Sink, Fork, C, Merge, Toggle, Dw, Seq}
@@ -14,15 +15,16 @@ use Rattle.net_core.specs.Wiring.{Node, Circuit}
 
 -- a blank and a number
 abbrev pub number_text : ℕ → List ℕ
-number_text number = codes " " ++ decimal number
+number_text number = worded (codes " ") number
 
 -- a blank, and a row and a column
 abbrev pub crossing_text : ℕ × ℕ → List ℕ
-crossing_text crossing = codes " " ++ decimal crossing.0 ++ codes "." ++ decimal crossing.1
+crossing_text crossing = worded (codes " ") crossing.0 ++ worded (codes ".") crossing.1
 
 -- the kind of a decision wait with its shape
 abbrev pub shape_text : Shape → List ℕ
-shape_text s = codes "DW " ++ decimal s.rows ++ codes " " ++ decimal s.cols ++ flat_map crossing_text s.cross ++ codes " :"
+shape_text s =
+    worded (codes "DW ") s.rows ++ worded (codes " ") s.cols ++ flat_map crossing_text s.cross ++ codes " :"
 
 -- the name of a kind; a decision wait has its shape behind it
 abbrev pub kind_text : Kind → List ℕ
@@ -56,7 +58,7 @@ mark_sign false = codes "?"
 
 -- the line of a symbol: its name, its mark and its number
 abbrev pub port_line : List ℕ → Bool → ℕ → List ℕ
-port_line name output number = codes "port " ++ name ++ mark_sign output ++ codes " " ++ decimal number ++ codes "\n"
+port_line name output number = codes "port " ++ name ++ mark_sign output ++ numbered_line (codes " ") number
 
 -- a line for each symbol, numbered from k on; `is_output` says which are outputs
 abbrev pub ports_text : (ℕ → Bool) → ℕ → List (List ℕ) → List ℕ
@@ -66,8 +68,8 @@ ports_text is_output k (name ∷ names) = port_line name (is_output k) k ++ port
 -- the text of a network of these components in the environment of a command
 abbrev pub command_net_text : Command → List Node → List ℕ
 command_net_text c parts =
-    codes "dinet 1\nspec " ++ procs_text c.names c.procs ++ codes "\n" ++ ports_text (gives_symbol (marks_of_all c.procs)) 0 c.names
-    ++ flat_map node_line parts ++ codes "end\n"
+    codes "dinet 1\nspec " ++ procs_text c.names c.procs ++ codes "\n"
+    ++ ports_text (gives_symbol (marks_of_all c.procs)) 0 c.names ++ flat_map node_line parts ++ codes "end\n"
 
 abbrev pub environment_text : NodeSpec → List Node → List ℕ
 environment_text (Basic kind) parts = []

@@ -1,10 +1,10 @@
 //! The line of a component.
-#![tactic(auto, using(di_io::proofs::Prints::prints_twice, di_io::proofs::Prints::prints_none))]
+#![tactic(auto, using(di_io::proofs::Prints::printing))]
 
 ghost use Rattle.std.specs.Prelude.{◌≡◌, flat_map};
 ghost use Rattle.di_io.specs.Printing.{prints};
 ghost use Rattle.net_text.specs.NetText.{number_text, crossing_text, shape_text, kind_text, component_line, node_line};
-ghost use Rattle.net_text.specs.Whole.{IsWhole};
+ghost use Rattle.net_text.specs.Mirror.Whole.{IsWhole};
 
 use basic_kinds::{Kind, Shape, ports};
 use di_io::{Printer, Sink};
@@ -23,7 +23,12 @@ pub fn print_node<S: Sink>(node: &Node, printer: &mut Printer<'_, S>)
     }
 }
 
-fn print_component<S: Sink>(kind: &Kind, inputs: &[u32], outputs: &[u32], printer: &mut Printer<'_, S>)
+fn print_component<S: Sink>(
+    kind: &Kind,
+    inputs: &[u32],
+    outputs: &[u32],
+    printer: &mut Printer<'_, S>,
+)
     ensures { printer.new ≡ prints printer.old (component_line kind.now inputs.now outputs.now) }
 {
     print_kind(kind, printer);
@@ -59,7 +64,7 @@ fn print_shape<S: Sink>(shape: &Shape, printer: &mut Printer<'_, S>)
     printer.print(b" :");
 }
 
-#[tactic(auto, using(di_io::proofs::Prints::prints_twice, di_io::proofs::Prints::prints_none, di_io::proofs::Each::each_next, di_io::proofs::Each::each_none))]
+#[tactic(auto, using(di_io::proofs::Prints::prints_none, di_io::proofs::Each::each_none))]
 fn print_crossings<S: Sink>(crossings: &[(u32, u32)], printer: &mut Printer<'_, S>)
     ensures { printer.new ≡ prints printer.old (flat_map crossing_text crossings.now) }
 {
@@ -75,7 +80,7 @@ fn print_crossing<S: Sink>(row: u32, column: u32, printer: &mut Printer<'_, S>)
     print_worded(b".", column as u64, printer);
 }
 
-#[tactic(auto, using(di_io::proofs::Prints::prints_twice, di_io::proofs::Prints::prints_none, di_io::proofs::Each::each_number, di_io::proofs::Each::each_none))]
+#[tactic(auto, using(di_io::proofs::Prints::printing, di_io::proofs::Each::each_number, di_io::proofs::Each::each_none))]
 fn print_numbers<S: Sink>(numbers: &[u32], printer: &mut Printer<'_, S>)
     ensures { printer.new ≡ prints printer.old (flat_map number_text numbers.now) }
 {

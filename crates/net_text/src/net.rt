@@ -1,5 +1,5 @@
 //! The text of a whole network.
-#![tactic(auto, using(di_io::proofs::Prints::prints_twice, di_io::proofs::Prints::prints_none))]
+#![tactic(auto, using(di_io::proofs::Prints::printing))]
 
 ghost use Rattle.std.specs.Prelude.{◌≡◌, ◌≤◌, flat_map, OnOk, OnErr};
 ghost use Rattle.std.specs.List.{AllByRecursion};
@@ -7,7 +7,7 @@ ghost use Rattle.di_io.specs.Faults.{Rose};
 ghost use Rattle.di_io.specs.Written.{Gains, GainsFront};
 ghost use Rattle.di_io.specs.Printing.{prints};
 ghost use Rattle.net_text.specs.NetText.{node_line, command_net_text, net_text};
-ghost use Rattle.net_text.specs.Whole.{IsWhole};
+ghost use Rattle.net_text.specs.Mirror.Whole.{IsWhole};
 
 use crate::component::print_node;
 use crate::ports::print_ports;
@@ -18,6 +18,7 @@ use net_core::{Net, Node, NodeSpec};
 
 /// Puts the text of a network whose environment is a command; of another it puts nothing. It takes no
 /// memory. `Failed` where the sink failed: then a front of the text was put.
+#[tactic(auto, using(di_io::proofs::Prints::front_at), unfolding(di_io::specs::Printing::prints))]
 pub fn write_net<S: Sink>(net: &Net, sink: &mut S) -> Result<(), PutFault>
     ensures later { S.faults sink.old ≤ S.faults sink.new }
     ensures ok { OnOk result (Gains (S.written sink.old) (S.written sink.new) (net_text net.now)) }
@@ -52,6 +53,7 @@ fn print_command_net<S: Sink>(command: &Command, parts: &[Node], printer: &mut P
     printer.print(b"end\n");
 }
 
+#[tactic(auto, using(di_io::proofs::Prints::prints_none, di_io::proofs::Each::each_none))]
 fn print_nodes<S: Sink>(nodes: &[Node], printer: &mut Printer<'_, S>)
     requires { AllByRecursion IsWhole nodes.now }
     ensures { printer.new ≡ prints printer.old (flat_map node_line nodes.now) }

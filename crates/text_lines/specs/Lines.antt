@@ -2,9 +2,9 @@
 use Rattle.std.specs.Prelude.{ℕ, List, ◌++◌, codes, decimal}
 
 -- words and a number
-abbrev pub worded : List ℕ → ℕ → List ℕ
+unfoldable pub worded : List ℕ → ℕ → List ℕ
 worded words n = words ++ decimal n
 
 -- words and a number to the end of the line
-abbrev pub numbered_line : List ℕ → ℕ → List ℕ
+unfoldable pub numbered_line : List ℕ → ℕ → List ℕ
 numbered_line words n = words ++ decimal n ++ codes "\n"

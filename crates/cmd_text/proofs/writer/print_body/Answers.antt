@@ -7,10 +7,12 @@ use Rattle.cmd_text.proofs.writer.print_body.Goals as goal
 
 pub returns-in-empty : goal.returns-in-empty
 returns-in-empty g c =
-    sym (prints_none c.args.printer.now)
-    ∙ ap (prints c.args.printer.now) (body_none c.args.names.now c.as_slice.result.now c.args.body.now c.in-empty.len_below (ap seq_of c.as_slice.ensures ∙ c.body.view_is))
+    let items = ap seq_of c.as_slice.ensures ∙ c.body.view_is in
+    let none = body_none c.args.names.now c.as_slice.result.now c.args.body.now c.in-empty.len_below items in
+    sym (prints_none c.args.printer.now) ∙ ap (prints c.args.printer.now) none
 
 pub returns-in_default : goal.returns-in_default
 returns-in_default g c =
-    c.print_seq.ensures
-    ∙ ap (prints c.args.printer.now) (body_more c.args.names.now c.as_slice.result.now c.args.body.now c.in_default.len_at_least (ap seq_of c.as_slice.ensures ∙ c.body.view_is))
+    let items = ap seq_of c.as_slice.ensures ∙ c.body.view_is in
+    let more = body_more c.args.names.now c.as_slice.result.now c.args.body.now c.in_default.len_at_least items in
+    c.print_seq.ensures ∙ ap (prints c.args.printer.now) more

@@ -7,4 +7,5 @@ use Rattle.net_text.proofs.net.print_nodes.Given as goal
 -- the rest is still to be printed
 abbrev pub invariant-loop-node : goal.invariant-loop-node
 invariant-loop-node g l =
-    prints l.printer (flat_map node_line (drop l.node-index l.nodes)) ≡ prints l.initial.printer (flat_map node_line l.nodes)
+    prints l.printer (flat_map node_line (drop l.node-index l.nodes))
+    ≡ prints l.initial.printer (flat_map node_line l.nodes)

@@ -1,7 +1,7 @@
 use Rattle.std.proofs.Common.{◌≡◌, drop}
 use Rattle.cmd_tree.specs.Tree.{marks_of, marks_among}
 use Rattle.cmd_tree.specs.View.{seq_of, seqs_of}
-use Rattle.net_text.specs.Ports.{walk_marks}
+use Rattle.net_text.specs.Mirror.Ports.{walk_marks}
 use Rattle.net_text.proofs.ports.+ports.Given as goal
 
 -- the rest is still to be walked

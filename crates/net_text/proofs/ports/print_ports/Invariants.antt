@@ -1,6 +1,6 @@
 use Rattle.std.proofs.Common.{◌≡◌, drop}
 use Rattle.cmd_tree.specs.Limits.{marks_of_all}
-use Rattle.net_text.specs.Ports.{walk_marks}
+use Rattle.net_text.specs.Mirror.Ports.{walk_marks}
 use Rattle.net_text.proofs.ports.print_ports.Given as goal
 
 -- the rest is still to be walked
