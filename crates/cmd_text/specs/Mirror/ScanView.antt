@@ -1,4 +1,4 @@
--- How the scanner's values in the code are read as tokens and scans.
+-- Mirror of the scanner's values: the tokens and scans that they stand for.
 use Rattle.std.specs.Prelude.{ℕ, List, [], ◌∷◌, ⊤, ◌<◌, ◌≤◌, Option, Some, None, slice_range, drop}
 use Rattle.cmd_text.specs.declared.token.Token.{Token}
 use Rattle.cmd_text.specs.declared.token.Token.TheVariants as code
@@ -9,6 +9,7 @@ use Rattle.cmd_text.specs.declared.token.First.TheVariants.{Letter, Colon, Pipe,
 use Rattle.cmd_text.specs.declared.file.Refusal.{Refusal}
 use Rattle.cmd_text.specs.declared.file.Refusal.TheVariants as told
 use Rattle.cmd_text.specs.declared.scan.Found.{Found}
+use Rattle.cmd_text.specs.declared.scan.Lexeme.{Lexeme}
 use Rattle.cmd_text.specs.Token as spec
 use Rattle.cmd_text.specs.Fault.{Fault, BadByte, BadToken, Unexpected, NameTooLong, TooDeep}
 use Rattle.cmd_text.specs.Scan.{Scanned, then_token, faulty, Mode, Between, InComment, InWord, AfterColon, AfterBar, scan}
@@ -34,6 +35,9 @@ token_of code.Comma w = spec.Comma
 token_of code.Slash w = spec.Slash
 token_of code.End w = spec.End
 token_of code.Word w = spec.Word w
+
+abbrev pub lexeme_token : Lexeme → spec.Token
+lexeme_token l = token_of l.token l.word.now
 
 -- the scan after a byte that begins a token so
 abbrev pub begun : First → ℕ → ℕ → (Mode → Scanned) → Scanned

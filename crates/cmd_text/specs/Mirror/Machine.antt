@@ -1,4 +1,4 @@
--- The machine that reads the tokens of a process once from the left.
+-- Mirror of the machine that reads the tokens of a process once from the left.
 use Rattle.std.specs.Prelude.{ℕ, ◌+◌, List, [], ◌∷◌, ◌++◌, Option, Some, None}
 use Rattle.cmd_tree.specs.declared.tree.Dir.{Dir}
 use Rattle.cmd_tree.specs.declared.tree.Dir.TheVariants.{Input, Output}
@@ -99,16 +99,16 @@ heard (AtBurstMark k a i ms n) Bang = Some n
 heard s x = None
 
 -- how many round brackets are open
-abbrev pub depth_in : Ctx → ℕ
-depth_in (InBody l) = 0
-depth_in InLead = 0
-depth_in (Inside k a i) = depth_in k + 1
+abbrev pub open_brackets_in : Ctx → ℕ
+open_brackets_in (InBody l) = 0
+open_brackets_in InLead = 0
+open_brackets_in (Inside k a i) = open_brackets_in k + 1
 
-abbrev pub depth : State → ℕ
-depth (AtItem k a i) = depth_in k
-depth (AtMark k a i n) = depth_in k
-depth (AfterItem k a i) = depth_in k
-depth (AtBurst k a i ms) = depth_in k + 1
-depth (AtBurstMark k a i ms n) = depth_in k + 1
-depth (AfterBurst k a i ms) = depth_in k + 1
-depth s = 0
+abbrev pub open_brackets : State → ℕ
+open_brackets (AtItem k a i) = open_brackets_in k
+open_brackets (AtMark k a i n) = open_brackets_in k
+open_brackets (AfterItem k a i) = open_brackets_in k
+open_brackets (AtBurst k a i ms) = open_brackets_in k + 1
+open_brackets (AtBurstMark k a i ms n) = open_brackets_in k + 1
+open_brackets (AfterBurst k a i ms) = open_brackets_in k + 1
+open_brackets s = 0

@@ -1,15 +1,16 @@
--- The reader that goes once from the left, over the machine of a file and the names so far.
+-- Mirror of the reader that goes once from the left, over the machine of a file and the names so far.
 use Rattle.std.specs.Prelude.{ℕ, nat_lt, List, [], ◌∷◌, Option, Some, None, Result, Ok, Err, if◌then◌else◌}
 use Rattle.std.specs.Option.{option_and_then, option_map}
 use Rattle.std.specs.Str.{bytes_eq}
 use Rattle.indexmap.specs.IndexSet.{insert_key}
+use Rattle.cmd_tree.specs.declared.limits.TheConstants.{MAX_OPEN_BRACKETS}
 use Rattle.cmd_text.specs.Token.{Token}
-use Rattle.cmd_text.specs.Machine.{heard}
+use Rattle.cmd_text.specs.Mirror.Machine.{heard}
 use Rattle.cmd_text.specs.File.{Placed}
 use Rattle.cmd_text.specs.Names.{number_in}
 use Rattle.cmd_text.specs.Scan.{Between, scan}
 use Rattle.cmd_text.specs.Fault.{Fault, Unexpected, TooDeep}
-use Rattle.cmd_text.specs.Reader.{Spot, AtSentence, InProcess, step, depth}
+use Rattle.cmd_text.specs.Mirror.Reader.{Spot, AtSentence, InProcess, step, open_brackets_at}
 
 pub record Standing : Type 0 where
   pub names : List (List ℕ)
@@ -36,7 +37,7 @@ begin = record { names = []; spot = AtSentence [] }
 -- What becomes of a token: it is refused, or opens too many brackets, or the reader goes on.
 abbrev pub judge : Placed → Option Standing → (Standing → Result Standing Fault) → Result Standing Fault
 judge x None next = Err (Unexpected x.at)
-judge x (Some t) next = if nat_lt 64 (depth t.spot) then Err (TooDeep x.at) else next t
+judge x (Some t) next = if nat_lt MAX_OPEN_BRACKETS (open_brackets_at t.spot) then Err (TooDeep x.at) else next t
 
 abbrev pub verdict : Standing → List Placed → Option Fault → Result Standing Fault
 verdict st [] None = Ok st

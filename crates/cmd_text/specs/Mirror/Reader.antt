@@ -1,5 +1,5 @@
--- The machine that reads the tokens of a file once from the left.
-use Rattle.std.specs.Prelude.{ℕ, List, [], ◌∷◌, ◌++◌, Option, Some, None}
+-- Mirror of the machine that reads the tokens of a file once from the left.
+use Rattle.std.specs.Prelude.{ℕ, List, [], ◌∷◌, ◌++◌, Option, Some, None, ⊤}
 use Rattle.std.specs.Option.{option_map}
 use Rattle.cmd_text.specs.declared.file.Sentence.{Sentence}
 use Rattle.cmd_text.specs.declared.file.Factor.{Factor}
@@ -8,8 +8,8 @@ use Rattle.cmd_text.specs.declared.file.Rename.{Rename}
 use Rattle.cmd_text.specs.Token.{Token, Let, Main, Pref, Define, Dot, Par, LeftSq, RightSq, Comma, Slash, End, Word}
 use Rattle.cmd_text.specs.Process.{proc_of}
 use Rattle.cmd_text.specs.File.{Use, Head, sentence_of}
-use Rattle.cmd_text.specs.Machine.{State, AtForm, AtBody, AtItem, AtMark, AfterItem, AtBurst, AtBurstMark, AfterBurst, AtSecond, Closed}
-use Rattle.cmd_text.specs.Machine as machine
+use Rattle.cmd_text.specs.Mirror.Machine.{State, AtForm, AtBody, AtItem, AtMark, AfterItem, AtBurst, AtBurstMark, AfterBurst, AtSecond, Closed}
+use Rattle.cmd_text.specs.Mirror.Machine as machine
 
 -- the sentences before, and the head and the factors of this one
 pub record Partly : Type 0 where
@@ -85,7 +85,12 @@ module _ (number : List ℕ → ℕ) where
   step (AtEnd ss) End p = Some (Finished ss)
   step s x p = None
 
+-- the place is in a process
+abbrev pub IsWithin : Spot → Type 0
+IsWithin (InProcess q s) = ⊤
+IsWithin s = ⊥
+
 -- how many round brackets are open
-abbrev pub depth : Spot → ℕ
-depth (InProcess q s) = machine.depth s
-depth s = 0
+abbrev pub open_brackets_at : Spot → ℕ
+open_brackets_at (InProcess q s) = machine.open_brackets s
+open_brackets_at s = 0
