@@ -1,4 +1,5 @@
 pub mod Follows
+pub mod NewNumbers
 pub mod Fused
 pub mod JoinedExact
 pub mod JoinedSound

@@ -1,6 +1,7 @@
 //! A network in the place of one node of another.
 #![tactic(auto)]
 
+mod parts;
 mod renumber;
 #[cfg(test)]
 mod tests;
