@@ -11,3 +11,7 @@ pub mod SplicedNet
 pub mod Numbering
 pub mod Ports
 pub mod Tables
+pub mod OnePass
+pub mod Turns
+pub mod Passes
+pub mod AllSpliced

@@ -237,7 +237,7 @@ spliced_is c a m ends first nodes wires d e g f =
     let count : wires ≡ c.wires + rank (is_inner m) m.wires = f ∙ ap (λ n. n + rank (is_inner m) m.wires) d in
     λ i. record { nodes = take a c.nodes ++ (moves i ++ drop (suc a) c.nodes); wires = count i }
 
-rank_few : (f : ℕ → Bool) (n : ℕ) → rank f n ≤ n
+pub rank_few : (f : ℕ → Bool) (n : ℕ) → rank f n ≤ n
 rank_few f zero = let none = rank_none 0 f in omega arith
 rank_few f (suc n) = elim (cases_Bool (f n)) [
   | inl e ↦ omega (arith, rank_more f n e, rank_few f n)

@@ -1,6 +1,7 @@
 //! A network in the place of one node of another.
 #![tactic(auto)]
 
+mod many;
 mod parts;
 mod renumber;
 #[cfg(test)]
@@ -14,6 +15,7 @@ ghost use Rattle.net_core.specs.Wiring.{Circuit, IsWired, IsClosed};
 ghost use Rattle.net_core.specs.Networks.{IsClean, SoundFor, Correct};
 ghost use Rattle.substitute.specs.Splice.{spliced, Fitting};
 
+pub use many::splice_all;
 pub use whole::{SpliceRefusal, splice};
 
 /// What a network keeps where another one takes the place of one of its nodes: each node has its wires, each
