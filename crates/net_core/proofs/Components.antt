@@ -5,14 +5,27 @@ use Rattle.std.specs.List.{AllByRecursion, sum_by, range_with_len}
 use Rattle.std.proofs.lemmas.Bool.{cases_lt, cases_eq}
 use Rattle.std.proofs.lemmas.List.Sums.{sum_by-cons}
 use Rattle.std.proofs.lemmas.Option.{none-some, slice_get_within, slice_get_past}
+use Rattle.basic_kinds.specs.Totals.{total}
+use Rattle.basic_kinds.proofs.Totals.{total_none, total_same, total_split}
 use Rattle.net_core.specs.declared.spec.NodeSpec.{NodeSpec}
 use Rattle.net_core.specs.Wiring.{Node, Circuit, count, moved}
 use Rattle.net_core.specs.Renumbering.{IsRenumbered, sum_of_parts}
 use Rattle.net_core.proofs.Counting.{count_nil, count_same, count_other}
 use Rattle.net_core.proofs.Moved.{node_at}
-use Rattle.net_core.proofs.Totals.{total, total_none, total_same, total_more, total_split}
 
 -- ---- sums over lists in which each number below n stands once
+
+-- one part is more, and the sum is as much more
+total_more : (k : ℕ) (u v : ℕ → ℕ) (i a : ℕ) → i < k → v i ≡ u i + a → ((j : ℕ) → j < k → (j ≡ i → ⊥) → v j ≡ u j)
+    → total k v ≡ total k u + a
+unfolding total
+total_more zero u v i a x e h = absurd (omega arith)
+total_more (suc k) u v i a x e h = elim (cases_lt i k) [
+  | inl y ↦ omega (arith, h k (omega arith) (λ c. omega arith), total_more k u v i a y e (λ j z. h j (omega arith)))
+  | inr y ↦
+      let c : i ≡ k = omega arith in
+      omega (arith, e, ap u c, ap v c, total_same k v u (λ j z. h j (omega arith) (λ d. omega arith)))
+]
 
 sum_counted : (n : ℕ) (g : ℕ → ℕ) (ns : List ℕ) → AllByRecursion (λ w. w < n) ns → total n (λ w. count w ns * g w) ≡ sum_by g ns
 sum_counted n g [] all = total_none n (λ w. count w [] * g w) (λ w h. ap (λ k. k * g w) (count_nil w) ∙ omega arith)
@@ -117,7 +130,7 @@ module _ (c d : Circuit) (k : IsRenumbered c d) (f : NodeSpec → ℕ) where
     | inr past ↦
         let (y, e) = node_at d.nodes j h in
         absurd (none-some y (ap (option_map (moved k.wire.to)) (sym (slice_get_past c.nodes (k.node.back j) past))
-            ∙ sym (k.nodes (k.node.back j)) ∙ ap (slice_get d.nodes) (k.node.back_to j) ∙ e))
+        ∙ sym (k.nodes (k.node.back j)) ∙ ap (slice_get d.nodes) (k.node.back_to j) ∙ e))
   ]
 
   abbrev numbers : List ℕ

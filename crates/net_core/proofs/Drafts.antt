@@ -1,7 +1,7 @@
 -- What a network in the making keeps, from one step to the next.
-use Rattle.std.proofs.Common.{◌≡◌, ℕ, suc, ◌+◌, ◌*◌, ◌^◌, ◌<◌, ◌≤◌, Bool, true, false, List, [], ◌∷◌, ◌++◌, length, get_or, take, drop, replicate, sym, ap, ◌∙◌, arith, inl, inr, length-append, append-nil, append_assoc}
+use Rattle.std.proofs.Common.{◌≡◌, ℕ, zero, suc, ◌+◌, ◌-◌, ◌*◌, ◌^◌, ◌<◌, ◌≤◌, Bool, true, false, List, [], ◌∷◌, ◌++◌, length, get_or, take, drop, replicate, sym, ap, subst, ◌∙◌, arith, inl, inr, length-append, append-nil, append_assoc}
 use Rattle.std.specs.List.{AllByRecursion}
-use Rattle.std.proofs.lemmas.List.{length-replicate, get_or_append_left, take_at}
+use Rattle.std.proofs.lemmas.List.{length-replicate, get_or_append_left, take_all, take_at}
 use Rattle.std.proofs.Math.Seq.{get_or-append_seam}
 use Rattle.std.proofs.lemmas.Bool.Decides.{eqb_tells}
 use Rattle.std.proofs.lemmas.List.FromFn.{length-map-range_with_len}
@@ -12,7 +12,7 @@ use Rattle.net_core.specs.declared.spec.NodeSpec.TheVariants.{Kind, Cmd}
 use Rattle.net_core.specs.declared.net.Ends.{Ends}
 use Rattle.net_core.specs.Specs.{outs_of, IsFormed, gives_symbol}
 use Rattle.net_core.specs.Wiring.{Node, count, picked, side, flows, wiring, IsWired}
-use Rattle.net_core.specs.Tallies.{Added, Roomy, Kept, KeptDraft, drivers_at, receivers_at, no_ends}
+use Rattle.net_core.specs.Mirror.Tallies.{Added, Roomy, Kept, KeptDraft, drivers_at, receivers_at, no_ends}
 use Rattle.net_core.proofs.Counting.{count-append, count_above, count_few, picked_all, picked_few, all_weaker, count_nil}
 
 -- a node has few ports
@@ -109,6 +109,24 @@ one_wire s xs k ends h = record {
     ];
   };
 }
+
+-- a list made longer keeps what it had
+pub resized : {A : Type 0} (xs : List A) (n k l : ℕ) (x : A) → k ≡ length xs → l ≡ length xs → take (k + n) xs ++ replicate (k + n - l) x ≡ xs ++ replicate n x
+resized xs n k l x e f =
+    let all : length xs ≤ k + n = omega arith in
+    let more : k + n - l ≡ n = omega arith in
+    ap (λ ys. ys ++ replicate (k + n - l) x) (take_all (k + n) xs all) ∙ ap (λ m. xs ++ replicate m x) more
+
+-- so many more wires
+pub more_wires : (s : NodeSpec) (xs : List Node) (k n : ℕ) (ends : List Ends) → KeptDraft s xs k ends → KeptDraft s xs (k + n) (ends ++ replicate n no_ends)
+more_wires s xs k zero ends h =
+    let same : k ≡ k + 0 = omega arith in
+    subst (λ l. KeptDraft s xs (k + 0) l) (sym (append-nil ends)) (subst (λ m. KeptDraft s xs m ends) same h)
+more_wires s xs k (suc n) ends h =
+    let same : k + 1 + n ≡ k + suc n = omega arith in
+    subst (λ l. KeptDraft s xs (k + suc n) l) (append_assoc ends (no_ends ∷ []) (replicate n no_ends))
+    (subst (λ m. KeptDraft s xs m ((ends ++ no_ends ∷ []) ++ replicate n no_ends)) same
+    (more_wires s xs (k + 1) n (ends ++ no_ends ∷ []) (one_wire s xs k ends h)))
 
 -- one more component
 pub one_part : (s : NodeSpec) (xs : List Node) (k : ℕ) (ends new : List Ends) (x : Node) → KeptDraft s xs k ends → IsWired k x → suc (suc (length xs)) < 2 ^ 32

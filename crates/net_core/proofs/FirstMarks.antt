@@ -1,7 +1,7 @@
 -- The directions of a command's symbols, while its marks are gone through.
 use Rattle.std.proofs.Common.{◌≡◌, ◌≢◌, ℕ, ◌+◌, ◌<◌, ◌≤◌, Bool, List, [], ◌∷◌, ◌++◌, length, get_or, take, drop, map, max, refl, sym, ap, subst, ◌∙◌, arith, length-append, add-one, drop-cons}
 use Rattle.std.specs.List.{AllByRecursion, range_with_len}
-use Rattle.std.proofs.lemmas.List.{take_more, drop_all, take-append-drop}
+use Rattle.std.proofs.lemmas.List.{take_more, take-append-drop}
 use Rattle.std.proofs.lemmas.List.FromFn.{map-range_with_len_more}
 use Rattle.cmd_tree.specs.declared.tree.Mark.{Mark}
 use Rattle.cmd_tree.specs.declared.tree.Dir.{Dir}
@@ -9,7 +9,8 @@ use Rattle.cmd_tree.specs.declared.tree.Dir.TheVariants.{Input, Output}
 use Rattle.cmd_tree.specs.contracts.tree.Dir.{the_type as dir_type}
 use denote.Enum.Bare.{sameb}
 use Rattle.cmd_tree.specs.Limits.{IsNumbered}
-use Rattle.net_core.specs.Specs.{gives_symbol, is_output}
+use Rattle.cmd_tree.specs.Marks.{is_output}
+use Rattle.net_core.specs.Specs.{gives_symbol}
 
 abbrev pub no_mark : Mark
 no_mark = record { sym = record { 0 = 0 }; dir = Input }
@@ -39,9 +40,6 @@ first_mark (x ∷ front) m rest k all e =
 -- a list is what stands before an index, the element there, and the rest
 opened : (ms : List Mark) (i : ℕ) → i < length ms → ms ≡ take i ms ++ get_or ms i no_mark ∷ drop (i + 1) ms
 opened ms i h = sym (take-append-drop i ms) ∙ ap (λ (l : List Mark). take i ms ++ l) (rw (add-one, drop-cons ms i no_mark h) refl)
-
-pub start_directed : (ms : List Mark) (n : ℕ) → IsNumbered 0 ms n → Directed ms n [] 0
-start_directed ms n h = record { known = tt; numbered = h; are = refl }
 
 module _ (ms : List Mark) (n : ℕ) (outs : List Bool) (i : ℕ) (d : Directed ms n outs i) (h : i < length ms) (m : Mark) (at : m ≡ get_or ms i no_mark) where
   next : IsNumbered (length outs) (m ∷ drop (i + 1) ms) n
@@ -87,12 +85,6 @@ module _ (ms : List Mark) (n : ℕ) (outs : List Bool) (i : ℕ) (d : Directed m
           ∙ ap (λ (b : Bool). map (gives_symbol ms) (range_with_len 0 (length outs)) ++ b ∷ []) (sym decides)
           ∙ sym (map-range_with_len_more (gives_symbol ms) 0 (length outs) (length outs) (omega arith))
           ∙ ap (λ (k : ℕ). map (gives_symbol ms) (range_with_len 0 k)) (sym longer)
-
-pub directed_all : (ms : List Mark) (n : ℕ) (outs : List Bool) (i : ℕ) → Directed ms n outs i → length ms ≤ i
-    → outs ≡ map (gives_symbol ms) (range_with_len 0 n)
-directed_all ms n outs i d past =
-    let e : length outs ≡ n = subst (λ (l : List Mark). IsNumbered (length outs) l n) (drop_all i ms past) d.numbered in
-    d.are ∙ ap (λ (k : ℕ). map (gives_symbol ms) (range_with_len 0 k)) e
 
 pub tells_output : (d : Dir) → sameb dir_type d Output ≡ is_output d
 tells_output Input = refl

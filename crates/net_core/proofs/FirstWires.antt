@@ -7,7 +7,8 @@ use Rattle.std.proofs.lemmas.List.{get_or_default}
 use Rattle.std.proofs.lemmas.Option.{none-some, same_Some}
 use Rattle.net_core.specs.Wiring.{Node, Circuit, IsWired, IsClosed, count, moved}
 use Rattle.net_core.specs.Networks.{directions_at, directions, gives, takes, end_of, end_at, end_node, end_port, IsThrough}
-use Rattle.net_core.specs.Walk.{Walk, is_in, with_new, output_wires, list_node, next_left, step_at, walk_step, goes_on, walked, ends_at, walk, walk_of}
+use Rattle.cmd_tree.specs.Lists.{is_in}
+use Rattle.net_core.specs.Walk.{Walk, with_new, output_wires, list_node, next_left, step_at, walk_step, goes_on, walked, ends_at, walk, walk_of}
 use Rattle.net_core.proofs.Counting.{count_nil, count_same, count_other, count-append}
 use Rattle.net_core.proofs.Moved.{end_moved, node_at}
 use Rattle.net_core.proofs.Found.{all_nodes, same_ports, gives_located, takes_located}

@@ -5,14 +5,6 @@ pub mod Tallying
 pub mod Drafts
 pub mod FirstMarks
 pub mod Updates
-pub mod Webs
-pub mod Told
-pub mod Woven
-pub mod Totals
-pub mod Named
-pub mod Relabel
-pub mod Rounds
-pub mod RoundsNets
 pub mod Meets
 pub mod Renumbered
 pub mod Moved

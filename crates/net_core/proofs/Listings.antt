@@ -1,12 +1,11 @@
 -- Lists of different numbers with marks, one number more at a time.
-use Rattle.std.proofs.Common.{◌≡◌, ◌≢◌, ℕ, ◌+◌, ◌<◌, Bool, true, false, List, [], ◌∷◌, ◌++◌, length, drop, get_or, ◌≤◌, refl, sym, ap, ◌∙◌, subst, arith, inl, inr, eq-eqb, ne_eqb, drop-cons, add-one, get_or-set_same, get_or-set_other, append_assoc, append-nil}
-use Rattle.std.proofs.Math.ListN.{set, length-set}
+use Rattle.std.proofs.Common.{◌≡◌, ◌≢◌, ℕ, ◌+◌, ◌<◌, Bool, true, false, List, [], ◌∷◌, ◌++◌, length, drop, get_or, ◌≤◌, refl, sym, ap, ◌∙◌, eq-eqb, ne_eqb, drop-cons, add-one, append_assoc, append-nil}
 use Rattle.std.specs.Prelude.{◌||◌, nat_eq, slice_get, Some}
-use Rattle.std.proofs.lemmas.Bool.{cases_eq}
 use Rattle.std.proofs.lemmas.List.{drop_all}
 use Rattle.net_core.specs.Wiring.{Node, Circuit, picked, moved}
-use Rattle.net_core.specs.Walk.{is_in, with_new, moved_at, moved_all}
-use Rattle.net_core.specs.Walking.{Listing, AreMarks}
+use Rattle.cmd_tree.specs.Lists.{is_in}
+use Rattle.net_core.specs.Walk.{with_new, moved_at, moved_all}
+use Rattle.net_core.specs.Mirror.Walking.{Listing}
 use Rattle.net_core.proofs.Counting.{picked_here, picked_there, picked_none}
 
 or_true : (b : Bool) → (b || true) ≡ true
@@ -20,13 +19,6 @@ is_in_last v (x ∷ xs) = ap (λ b. nat_eq v x || b) (is_in_last v xs) ∙ or_tr
 pub is_in_other : (n v : ℕ) (ns : List ℕ) → n ≢ v → is_in n (ns ++ v ∷ []) ≡ is_in n ns
 is_in_other n v [] ne = ap (λ b. b || false) (ne_eqb n v ne)
 is_in_other n v (x ∷ xs) ne = ap (λ b. nat_eq n x || b) (is_in_other n v xs ne)
-
-pub marks_more : (marks : List Bool) (ns : List ℕ) (v : ℕ) → AreMarks marks ns → v < length marks → AreMarks (set marks v true) (ns ++ v ∷ [])
-marks_more marks ns v are inside n below = elim (cases_eq n v) [
-  | inl e ↦ subst (λ k. get_or (set marks v true) k false ≡ is_in k (ns ++ v ∷ [])) (sym e)
-      (get_or-set_same marks v true false inside ∙ sym (is_in_last v ns))
-  | inr ne ↦ get_or-set_other marks v n true false ne ∙ are n (omega (arith, length-set marks v true)) ∙ sym (is_in_other n v ns ne)
-]
 
 -- one number put behind a list
 pub new_one : (ns : List ℕ) (v : ℕ) → is_in v ns ≡ false → with_new ns (v ∷ []) ≡ ns ++ v ∷ []

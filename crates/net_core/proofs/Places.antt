@@ -8,7 +8,7 @@ use Rattle.std.proofs.lemmas.List.{get_or_past, get_or_default}
 use Rattle.std.proofs.lemmas.List.Sums.{position_or_len_is, passes_at_first, fails_before_first}
 use Rattle.net_core.specs.Wiring.{count}
 use Rattle.net_core.proofs.Counting.{count_nil, count_same, count_other, all_at}
-use Rattle.net_core.proofs.Totals.{total_le}
+use Rattle.basic_kinds.proofs.Totals.{total_le}
 use Rattle.net_core.proofs.Sizes.{all_counted, total_ones, each_once}
 
 pub count_more : (w x : ℕ) (xs : List ℕ) → count w xs ≤ count w (x ∷ xs)

@@ -9,7 +9,7 @@ use Rattle.std.proofs.lemmas.Option.{same_Some}
 use Rattle.net_core.specs.Specs.{outs_of}
 use Rattle.net_core.specs.Wiring.{Node, Circuit, IsWired, IsClosed}
 use Rattle.net_core.specs.Networks.{directions_at, takes, end_of, end_at, end_node, end_port}
-use Rattle.net_core.specs.Walking.{AreReceivers, AreWritten}
+use Rattle.net_core.specs.Mirror.Walking.{AreReceivers, AreWritten}
 use Rattle.net_core.proofs.Ends.{later_same}
 use Rattle.net_core.proofs.Found.{all_nodes, takes_located, port_within}
 
@@ -133,9 +133,6 @@ spec_input zero p x h e = ap not (get_or-map not (outs_of x.spec) p false true h
 spec_input (suc m) p x h e = ap (λ ds. not (get_or ds p true)) (later_same m (Some x)) ∙ ap not (sym (get_or_default (outs_of x.spec) p false true h) ∙ e ∙ later_number m)
 
 module _ (c : Circuit) (fit : AllByRecursion (IsWired c.wires) c.nodes) (closed : IsClosed c) where
-  pub received_none : (table : List ℕ) → length table ≡ c.wires → Received c table 0
-  received_none table sized = record { sized = sized; each = λ n p h. absurd (omega arith) }
-
   -- one node more
   pub received_more : (old new : List ℕ) (i : ℕ) (x : Node) → slice_get c.nodes i ≡ Some x → Received c old i
       → AreWritten old new (outs_of x.spec) x.ends i → Received c new (i + 1)

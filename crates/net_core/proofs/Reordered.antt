@@ -136,8 +136,11 @@ module _ (c d : Circuit) (k : IsRenumbered c d) (network : IsNetwork c) (closed 
   reordered_network : IsNetwork d
   reordered_network =
       let (x, e) = node_at c.nodes 0 network.some in record {
-        some = omega (arith, slice_get_within d.nodes 0 (moved k.wire.to x)
-            (ap (slice_get d.nodes) (sym k.outside) ∙ k.nodes 0 ∙ ap (option_map (moved k.wire.to)) e));
+        some = omega (
+          arith,
+          slice_get_within d.nodes 0 (moved k.wire.to x)
+              (ap (slice_get d.nodes) (sym k.outside) ∙ k.nodes 0 ∙ ap (option_map (moved k.wire.to)) e),
+        );
         wired = reordered_wired;
       }
 

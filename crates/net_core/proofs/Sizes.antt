@@ -16,7 +16,8 @@ use Rattle.net_core.specs.declared.spec.NodeSpec.TheVariants as spec
 use Rattle.net_core.specs.Specs.{outs_of, IsFormed, sides, gives_symbol}
 use Rattle.net_core.specs.Wiring.{Node, Circuit, IsWired, IsClosed, count, picked, side, flows, wiring, driven, received}
 use Rattle.net_core.proofs.Counting.{count_nil, count_same, count_other, picked_all}
-use Rattle.net_core.proofs.Totals.{total, total_none, total_one, total_same}
+use Rattle.basic_kinds.specs.Totals.{total}
+use Rattle.basic_kinds.proofs.Totals.{total_none, total_one, total_same}
 
 -- ---- each number below n once in a list of such numbers
 

@@ -4,7 +4,7 @@ use Rattle.std.proofs.lemmas.List.{get_or-set_same, get_or-set_other}
 use Rattle.std.proofs.lemmas.Bool.Decides.{eqb_tells}
 use Rattle.std.proofs.Math.ListN.{length-set}
 use Rattle.net_core.specs.declared.net.Ends.{Ends}
-use Rattle.net_core.specs.Tallies.{drivers_at, receivers_at, no_ends, Added}
+use Rattle.net_core.specs.Mirror.Tallies.{drivers_at, receivers_at, no_ends, Added}
 use Rattle.net_core.specs.Wiring.{picked, count}
 use Rattle.net_core.proofs.Counting.{left, left_here, left_elsewhere, left_other_side, left_few, picked_none, count_nil}
 

@@ -13,7 +13,8 @@ use Rattle.net_core.specs.Specs.{outs_of}
 use Rattle.net_core.specs.Wiring.{Node, Circuit, IsWired, IsNetwork, IsClosed, moved, picked}
 use Rattle.net_core.specs.Networks.{takes, end_node}
 use Rattle.net_core.specs.Renumbering.{IsRenumbered}
-use Rattle.net_core.specs.Walk.{Walk, is_in, with_new, output_wires, list_node, source_at, next_left, step_at, walk_step, walked, ends_at, outset, walk, walk_of, moved_at, moved_all, IsInWalkOrder}
+use Rattle.cmd_tree.specs.Lists.{is_in}
+use Rattle.net_core.specs.Walk.{Walk, with_new, output_wires, list_node, source_at, next_left, step_at, walk_step, walked, ends_at, outset, walk, walk_of, moved_at, moved_all, IsInWalkOrder}
 use Rattle.net_core.proofs.Found.{ranged, first_is}
 use Rattle.net_core.proofs.Walked.{Holds, steps, visits, begun, left_is, left_sources, none_left}
 use Rattle.net_core.proofs.WalkSteps.{next_source, next_other, nothing_left, listed_already, walked_none, walked_stays, walked_first}

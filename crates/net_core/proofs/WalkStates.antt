@@ -5,9 +5,10 @@ use Rattle.std.specs.List.{AllByRecursion}
 use Rattle.net_core.specs.declared.walk.WalkState.{WalkState}
 use Rattle.net_core.specs.Wiring.{Circuit, IsWired, IsClosed}
 use Rattle.net_core.specs.Networks.{takes, end_node}
-use Rattle.net_core.specs.Walk.{Walk, is_in, with_new, output_wires, list_node, walk_step, outset, walk_of}
-use Rattle.net_core.specs.Walking.{AreReceivers, Leads, IsVisited, AreSourcesListed}
-use Rattle.net_core.specs.WalkStates.{walk_in, IsSized, Walks}
+use Rattle.cmd_tree.specs.Lists.{is_in}
+use Rattle.net_core.specs.Walk.{Walk, with_new, output_wires, list_node, walk_step, outset, walk_of}
+use Rattle.net_core.specs.Mirror.Walking.{AreReceivers, Leads, IsVisited, AreSourcesListed}
+use Rattle.net_core.specs.Mirror.WalkStates.{walk_in, IsSized, Walks}
 use Rattle.net_core.proofs.Counting.{all_at}
 use Rattle.net_core.proofs.Places.{few_below}
 use Rattle.net_core.proofs.Walked.{Holds, receiver_there}

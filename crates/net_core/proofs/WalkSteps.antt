@@ -9,8 +9,9 @@ use Rattle.std.proofs.lemmas.List.Sums.{position_or_len_is}
 use Rattle.std.proofs.lemmas.Option.{none-some, same_Some, slice_get-get_or, slice_get_past}
 use Rattle.net_core.specs.Wiring.{Circuit, IsWired, IsClosed}
 use Rattle.net_core.specs.Networks.{takes, end_node}
-use Rattle.net_core.specs.Walk.{Walk, is_in, list_node, source_at, or_else, next_left, step_at, walk_step, goes_on, walked, outset, walk_of}
-use Rattle.net_core.specs.Walking.{Leads, IsVisited}
+use Rattle.cmd_tree.specs.Lists.{is_in}
+use Rattle.net_core.specs.Walk.{Walk, list_node, source_at, or_else, next_left, step_at, walk_step, goes_on, walked, outset, walk_of}
+use Rattle.net_core.specs.Mirror.Walking.{Leads, IsVisited}
 use Rattle.net_core.proofs.Found.{ranged}
 use Rattle.net_core.proofs.Listings.{is_in_last}
 use Rattle.net_core.proofs.Walked.{Holds, steps, begun, ended}

@@ -9,7 +9,8 @@ use Rattle.std.proofs.lemmas.Option.{none-some, same_Some, get_or_from_slice_get
 use Rattle.net_core.specs.Specs.{outs_of}
 use Rattle.net_core.specs.Wiring.{Node, Circuit, IsWired, IsClosed, count, picked}
 use Rattle.net_core.specs.Networks.{directions_at, gives, takes, end_of, end_at, end_node}
-use Rattle.net_core.specs.Walk.{Walk, is_in, with_new, output_wires, list_node, source_at, or_else, next_left, step_at, walk_step, goes_on, walked, ends_at, outset, walk_of}
+use Rattle.cmd_tree.specs.Lists.{is_in}
+use Rattle.net_core.specs.Walk.{Walk, with_new, output_wires, list_node, source_at, or_else, next_left, step_at, walk_step, goes_on, walked, ends_at, outset, walk_of}
 use Rattle.net_core.proofs.Counting.{count_nil, count_same, count_other, picked_all, all_at}
 use Rattle.net_core.proofs.Ends.{later_same}
 use Rattle.net_core.proofs.Found.{first_below, port_within, all_nodes, takes_located}

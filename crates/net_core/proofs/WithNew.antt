@@ -4,7 +4,8 @@ use Rattle.std.specs.Prelude.{if◌then◌else◌, ◌||◌}
 use Rattle.std.specs.List.{AllByRecursion}
 use Rattle.std.proofs.lemmas.Bool.{cases_eq, false≢true}
 use Rattle.net_core.specs.Wiring.{count}
-use Rattle.net_core.specs.Walk.{is_in, with_new}
+use Rattle.cmd_tree.specs.Lists.{is_in}
+use Rattle.net_core.specs.Walk.{with_new}
 use Rattle.net_core.proofs.Counting.{count_nil, count_same, count_other, count-append}
 use Rattle.net_core.proofs.Sizes.{all_append}
 use Rattle.net_core.proofs.Places.{count_more}

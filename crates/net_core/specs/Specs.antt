@@ -1,19 +1,14 @@
 -- What a specification says of a node: the directions of its ports, and its traces.
 use Rattle.std.specs.Prelude.{ℕ, Bool, true, false, nat_eq, if◌then◌else◌, List, [], ◌∷◌, ◌++◌, map, length, replicate, ⊤}
 use Rattle.std.specs.List.{range_with_len}
-use Rattle.cmd_tree.specs.declared.tree.Dir.{Dir}
-use Rattle.cmd_tree.specs.declared.tree.Dir.TheVariants.{Input, Output}
 use Rattle.cmd_tree.specs.declared.tree.Mark.{Mark}
 use Rattle.cmd_tree.specs.Limits.{marks_of_all}
+use Rattle.cmd_tree.specs.Marks.{is_output}
 use Rattle.cmd_tree.specs.Meaning.{Trace}
 use Rattle.basic_kinds.specs.Kinds.{inputs_of, outputs_of, IsWellFormed}
 use Rattle.basic_kinds.specs.KindTraces.{KindTrace}
 use Rattle.net_core.specs.declared.spec.NodeSpec.{NodeSpec}
 use Rattle.net_core.specs.declared.spec.NodeSpec.TheVariants.{Kind, Cmd}
-
-abbrev pub is_output : Dir → Bool
-is_output Input = false
-is_output Output = true
 
 -- whether the first mark of the symbol x is an output
 abbrev pub gives_symbol : List Mark → ℕ → Bool

@@ -1,6 +1,7 @@
 -- The order of a closed network: wires and components get their numbers on a walk from the environment.
 use Rattle.std.specs.Prelude.{◌≡◌, ℕ, zero, suc, ◌+◌, Bool, true, false, not, ◌&&◌, nat_eq, if◌then◌else◌, List, [], ◌∷◌, ◌++◌, length, Option, Some, None, slice_get, position}
-use Rattle.std.specs.List.{list_any, range_with_len, position_or_len}
+use Rattle.std.specs.List.{range_with_len, position_or_len}
+use Rattle.cmd_tree.specs.Lists.{is_in}
 use Rattle.basic_kinds.specs.declared.kind.Kind.TheVariants.{Wire, Iwire, Source, Sink, Fork, C, Merge, Toggle, Dw, Seq}
 use Rattle.net_core.specs.declared.spec.NodeSpec.{NodeSpec}
 use Rattle.net_core.specs.declared.spec.NodeSpec.TheVariants as spec
@@ -12,9 +13,6 @@ pub record Walk : Type 0 where
   pub listed : List ℕ
   pub numbered : List ℕ
   pub visited : ℕ
-
-abbrev pub is_in : ℕ → List ℕ → Bool
-is_in n ns = list_any (nat_eq n) ns
 
 -- a list with these numbers behind it, each that it does not have yet
 unfoldable pub with_new : List ℕ → List ℕ → List ℕ

@@ -7,11 +7,9 @@ mod net;
 mod ordered;
 mod renumber;
 mod spec;
-#[cfg(test)]
-mod tests;
 mod walk;
 
-pub use laws::{closed_law, ports_law, walk_law};
+pub use laws::{closed_law, network_law, ports_law, renumber_law, walk_law};
 pub use net::{Net, NetBuilder, Node, OpenPort, closed};
 pub use ordered::order;
 pub use renumber::moved_node;

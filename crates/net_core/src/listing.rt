@@ -1,6 +1,7 @@
 ghost use Rattle.std.specs.Prelude.{◌≡◌, ◌<◌, [], ◌∷◌, length, slice_get, Some, IfOk, OnOk};
 ghost use Rattle.std.specs.List.{AllByRecursion};
-ghost use Rattle.net_core.specs.Walk.{is_in, with_new};
+ghost use Rattle.cmd_tree.specs.Lists.{is_in};
+ghost use Rattle.net_core.specs.Walk.{with_new};
 
 use std::alloc::{AllocError, Global};
 use std::marker::Model;
@@ -14,7 +15,7 @@ pub struct Listing {
 
 impl Model for Listing {
     ghost use Rattle.std.specs.Prelude.{length};
-    ghost use Rattle.net_core.specs.Walking.{Listing, AreMarks};
+    ghost use Rattle.net_core.specs.Mirror.Walking.{Listing, AreMarks};
 
     ghost Value = { Listing };
 

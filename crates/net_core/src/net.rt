@@ -2,7 +2,7 @@ ghost use Rattle.std.specs.Prelude.{◌≡◌, ◌≢◌, ℕ, ◌+◌, ◌<◌,
 ghost use Rattle.std.specs.List.{AllByRecursion};
 ghost use Rattle.net_core.specs.Wiring.{Node, Circuit, Draft, IsWired, IsOnce, IsClosed, picked, finished, replaced};
 ghost use Rattle.net_core.specs.Specs.{IsFormed};
-ghost use Rattle.net_core.specs.Tallies.{Added, Roomy, Kept};
+ghost use Rattle.net_core.specs.Mirror.Tallies.{Added, Roomy, Kept};
 
 use crate::spec::{NodeSpec, directions};
 use std::alloc::{AllocError, Global};
@@ -60,7 +60,7 @@ impl Model for Net {
 
     ghost view = { λ a. record { nodes = a.nodes.items; wires = a.wires } };
 
-    ghost use Rattle.net_core.specs.Tallies.{Kept};
+    ghost use Rattle.net_core.specs.Mirror.Tallies.{Kept};
 
     ghost invariant = { λ a. Kept a.nodes.items a.wires a.ends.items };
 }
@@ -86,7 +86,7 @@ impl Model for NetBuilder {
 
     ghost view = { λ a. record { spec = a.spec; parts = a.parts.items; wires = a.wires } };
 
-    ghost use Rattle.net_core.specs.Tallies.{KeptDraft};
+    ghost use Rattle.net_core.specs.Mirror.Tallies.{KeptDraft};
 
     ghost invariant = { λ a. KeptDraft a.spec a.parts.items a.wires a.ends.items };
 }
@@ -129,13 +129,24 @@ impl NetBuilder {
         ensures ok { IfOk result (λ w. (w ≡ self.old.wires) × (self.new ≡ record self.old { wires = self.old.wires + 1 })) }
         ensures refused { OnErr result (self.new ≡ self.old) }
     {
-        self.ends.push(Ends {
+        self.wires(1)
+    }
+
+    /// So many wires: the number of the first. The others have the numbers after it. After an error the
+    /// builder is as before.
+    pub fn wires(&mut self, many: u32) -> Result<u32, AllocError>
+        requires { self.old.wires + many < 2 ^ 32 }
+        ensures ok { IfOk result (λ first. (first ≡ self.old.wires) × (self.new ≡ record self.old { wires = self.old.wires + many })) }
+        ensures refused { OnErr result (self.new ≡ self.old) }
+    {
+        let none = Ends {
             drivers: 0,
             receivers: 0,
-        })?;
-        let wire = self.wires;
-        self.wires += 1;
-        Ok(wire)
+        };
+        self.ends.resize(self.ends.len() + many as usize, none)?;
+        let first = self.wires;
+        self.wires += many;
+        Ok(first)
     }
 
     /// Adds a component with these wires at its ports, and gives its number.

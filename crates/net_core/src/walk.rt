@@ -1,9 +1,10 @@
 ghost use Rattle.std.specs.Prelude.{◌≡◌, ◌≢◌, ℕ, ◌+◌, ◌<◌, ◌≤◌, ◌^◌, true, false, [], ◌∷◌, ◌++◌, length, slice_get, slice_index, slice_index_or, Some, IfOk, OnOk};
 ghost use Rattle.std.specs.List.{AllByRecursion};
 ghost use Rattle.net_core.specs.Wiring.{IsClosed, picked};
+ghost use Rattle.cmd_tree.specs.Lists.{is_in};
 ghost use Rattle.net_core.specs.Walk as defined;
-ghost use Rattle.net_core.specs.Walking.{AreReceivers, AreWritten, Leads, IsVisited, AreSourcesListed};
-ghost use Rattle.net_core.specs.WalkStates.{walk_in, IsSized, Walks};
+ghost use Rattle.net_core.specs.Mirror.Walking.{AreReceivers, AreWritten, Leads, IsVisited, AreSourcesListed};
+ghost use Rattle.net_core.specs.Mirror.WalkStates.{walk_in, IsSized, Walks};
 
 use crate::listing::Listing;
 use crate::net::{Net, Node};
@@ -157,11 +158,11 @@ impl WalkState {
         requires walks { Walks net.now self.old }
         requires visited { IsVisited (walk_in self.old) }
         requires inside { node < length net.now.nodes }
-        requires next { defined.is_in node self.old.listed.numbers ≡ false → defined.next_left net.now self.old.listed.numbers ≡ Some node }
+        requires next { is_in node self.old.listed.numbers ≡ false → defined.next_left net.now self.old.listed.numbers ≡ Some node }
         ensures walks { OnOk result (Walks net.now self.new) }
         ensures leads { OnOk result (Leads net.now (walk_in self.old) (walk_in self.new)) }
         ensures visited { OnOk result (IsVisited (walk_in self.new)) }
-        ensures listed { OnOk result (defined.is_in node self.new.listed.numbers ≡ true) }
+        ensures listed { OnOk result (is_in node self.new.listed.numbers ≡ true) }
     {
         self.list_node(alloc, net, node)?;
         self.visit_all(alloc, net, receivers)

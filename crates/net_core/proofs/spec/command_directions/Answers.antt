@@ -1,5 +1,5 @@
 use Rattle.std.proofs.Common.{rules, ◌≡◌, ◌∷◌, [], ◌++◌, ◌+◌, Bool, List, length, get_or, subst, sym, ap, ◌∙◌, refl}
-use Rattle.net_core.specs.Specs.{is_output}
+use Rattle.cmd_tree.specs.Marks.{is_output}
 use Rattle.net_core.proofs.FirstMarks.{Directed, old_mark, new_mark, tells_output, no_mark}
 use Rattle.net_core.proofs.spec.command_directions.Goals as goal
 use Rattle.net_core.proofs.spec.command_directions.Goals.{then-mark-len+in_ok-push, else-mark-len}

@@ -1,6 +1,6 @@
 use Rattle.std.proofs.Common.{◌<◌, ◌+◌, List, ℕ, length, get_or, take, false, not, sym, ap, subst}
 use Rattle.std.specs.Prelude.{nat_eq}
-use Rattle.net_core.specs.Walking.{AreWritten}
+use Rattle.net_core.specs.Mirror.Walking.{AreWritten}
 use Rattle.net_core.proofs.Counting.{all_at, agrees, differs}
 use Rattle.net_core.proofs.Receivers.{written_here, written_not}
 use Rattle.net_core.proofs.walk.mark_inputs.Goals as goal

@@ -1,4 +1,4 @@
-use Rattle.net_core.specs.Walking.{AreWritten}
+use Rattle.net_core.specs.Mirror.Walking.{AreWritten}
 use Rattle.std.proofs.Common.{take}
 use Rattle.net_core.proofs.walk.mark_inputs.Given as goal
 

@@ -4,7 +4,7 @@ use Rattle.std.specs.List.{AllByRecursion}
 use Rattle.std.proofs.lemmas.Option.{slice_get_read}
 use Rattle.net_core.specs.Specs.{outs_of}
 use Rattle.net_core.specs.Wiring.{Node, Circuit, IsWired}
-use Rattle.net_core.specs.Walking.{AreWritten}
+use Rattle.net_core.specs.Mirror.Walking.{AreWritten}
 use Rattle.net_core.proofs.Drafts.{written_all}
 use Rattle.net_core.proofs.Receivers.{received_more, received_all}
 use Rattle.net_core.proofs.walk.receivers.Goals as goal

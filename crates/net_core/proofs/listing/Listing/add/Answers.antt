@@ -1,8 +1,9 @@
 use Rattle.std.proofs.Common.{◌≡◌, ◌<◌, ◌∷◌, [], length, true, false, ap, sym, ◌∙◌, arith}
 use Rattle.std.proofs.Math.ListN.{length-set}
 use Rattle.std.proofs.lemmas.List.{get_or_default}
-use Rattle.net_core.specs.Walk.{is_in, with_new}
-use Rattle.net_core.specs.Walking.{Listing}
+use Rattle.cmd_tree.specs.Lists.{is_in}
+use Rattle.net_core.specs.Walk.{with_new}
+use Rattle.net_core.specs.Mirror.Walking.{Listing}
 use Rattle.net_core.proofs.Listings.{new_one, old_one, listing_is}
 use Rattle.net_core.proofs.listing.Listing.add.Goals as goal
 

@@ -1,6 +1,6 @@
 use Rattle.std.proofs.Common.{◌+◌, drop, ap, ◌∙◌}
 use Rattle.net_core.specs.Walk.{with_new}
-use Rattle.net_core.specs.Walking.{Listing}
+use Rattle.net_core.specs.Mirror.Walking.{Listing}
 use Rattle.net_core.proofs.Listings.{new_step, new_rest, listing_is}
 use Rattle.net_core.proofs.listing.Listing.add_all.Goals as goal
 

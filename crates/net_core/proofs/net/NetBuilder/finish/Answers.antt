@@ -1,7 +1,7 @@
 use Rattle.std.proofs.Common.{◌≡◌, length, ap, ◌∙◌, rules, true, false}
 use Rattle.net_core.specs.Wiring.{Draft, picked, IsWired}
 use Rattle.net_core.specs.Specs.{outs_of}
-use Rattle.net_core.specs.Tallies.{Added}
+use Rattle.net_core.specs.Mirror.Tallies.{Added}
 use Rattle.net_core.proofs.Drafts.{roomy, whole, written_all, wires_few}
 use Rattle.net_core.proofs.net.NetBuilder.finish.Goals as goal
 

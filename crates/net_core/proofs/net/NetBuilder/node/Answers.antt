@@ -1,7 +1,7 @@
 use Rattle.std.proofs.Common.{◌≡◌, ◌∷◌, [], ◌++◌, ◌-◌, ◌<◌, ◌^◌, suc, length, ap, ◌∙◌, arith, rules, true, false}
 use Rattle.net_core.specs.Wiring.{Node, Draft, side, IsWired}
 use Rattle.net_core.specs.Specs.{outs_of}
-use Rattle.net_core.specs.Tallies.{Added}
+use Rattle.net_core.specs.Mirror.Tallies.{Added}
 use Rattle.net_core.proofs.Drafts.{roomy, one_part, last_is, written_all, wires_few}
 use Rattle.net_core.proofs.net.NetBuilder.node.Goals as goal
 

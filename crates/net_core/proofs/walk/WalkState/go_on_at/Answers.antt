@@ -1,8 +1,9 @@
 use Rattle.std.proofs.Common.{◌≡◌, true, sym, ap, ◌∙◌, subst}
 use Rattle.std.proofs.lemmas.Result.{on_ok_weaker}
-use Rattle.net_core.specs.Walk.{Walk, is_in}
-use Rattle.net_core.specs.Walking.{Leads}
-use Rattle.net_core.specs.WalkStates.{walk_in}
+use Rattle.cmd_tree.specs.Lists.{is_in}
+use Rattle.net_core.specs.Walk.{Walk}
+use Rattle.net_core.specs.Mirror.Walking.{Leads}
+use Rattle.net_core.specs.Mirror.WalkStates.{walk_in}
 use Rattle.net_core.proofs.WalkSteps.{listed_now, leads_next, leads_then, leads_keeps}
 use Rattle.net_core.proofs.WalkStates.{goes_to}
 use Rattle.net_core.proofs.walk.WalkState.go_on_at.Goals as goal

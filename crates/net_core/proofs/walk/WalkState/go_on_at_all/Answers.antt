@@ -1,7 +1,7 @@
 use Rattle.std.proofs.Common.{◌<◌, length, ap, subst, arith, below_more}
 use Rattle.std.specs.List.{AllByRecursion}
 use Rattle.net_core.specs.Wiring.{Circuit, IsWired}
-use Rattle.net_core.specs.WalkStates.{walk_in}
+use Rattle.net_core.specs.Mirror.WalkStates.{walk_in}
 use Rattle.net_core.proofs.WalkSteps.{next_other, leads_keeps}
 use Rattle.net_core.proofs.WalkStates.{walk_whole}
 use Rattle.net_core.proofs.walk.WalkState.go_on_at_all.Goals as goal

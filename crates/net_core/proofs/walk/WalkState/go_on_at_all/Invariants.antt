@@ -1,7 +1,7 @@
 use Rattle.std.proofs.Common.{◌≡◌, ℕ, ◌<◌, true}
-use Rattle.net_core.specs.Walk.{is_in}
-use Rattle.net_core.specs.Walking.{IsVisited, AreSourcesListed}
-use Rattle.net_core.specs.WalkStates.{walk_in, Walks}
+use Rattle.cmd_tree.specs.Lists.{is_in}
+use Rattle.net_core.specs.Mirror.Walking.{IsVisited, AreSourcesListed}
+use Rattle.net_core.specs.Mirror.WalkStates.{walk_in, Walks}
 use Rattle.net_core.proofs.walk.WalkState.go_on_at_all.Given as goal
 
 abbrev pub invariant-loop-number : goal.invariant-loop-number

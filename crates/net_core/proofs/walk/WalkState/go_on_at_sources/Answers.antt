@@ -4,9 +4,10 @@ use Rattle.std.proofs.lemmas.Bool.{false≢true}
 use Rattle.std.proofs.lemmas.Option.{slice_get_read, slice_get_within}
 use Rattle.net_core.specs.declared.walk.WalkState.{WalkState}
 use Rattle.net_core.specs.Wiring.{Node, Circuit}
-use Rattle.net_core.specs.Walk.{is_source, source_at, is_in}
-use Rattle.net_core.specs.Walking.{IsVisited}
-use Rattle.net_core.specs.WalkStates.{walk_in, Walks}
+use Rattle.cmd_tree.specs.Lists.{is_in}
+use Rattle.net_core.specs.Walk.{is_source, source_at}
+use Rattle.net_core.specs.Mirror.Walking.{IsVisited}
+use Rattle.net_core.specs.Mirror.WalkStates.{walk_in, Walks}
 use Rattle.net_core.proofs.WalkSteps.{next_source, leads_keeps}
 use Rattle.net_core.proofs.walk.WalkState.go_on_at_sources.Goals as goal
 use Rattle.net_core.proofs.walk.WalkState.go_on_at_sources.Goals.{then-is_source+in_ok-go_on_at, else-is_source}

@@ -1,8 +1,9 @@
 use Rattle.std.proofs.Common.{◌≡◌, ℕ, ◌<◌, true}
 use Rattle.std.specs.Prelude.{slice_get}
-use Rattle.net_core.specs.Walk.{source_at, is_in}
-use Rattle.net_core.specs.Walking.{IsVisited}
-use Rattle.net_core.specs.WalkStates.{walk_in, Walks}
+use Rattle.cmd_tree.specs.Lists.{is_in}
+use Rattle.net_core.specs.Walk.{source_at}
+use Rattle.net_core.specs.Mirror.Walking.{IsVisited}
+use Rattle.net_core.specs.Mirror.WalkStates.{walk_in, Walks}
 use Rattle.net_core.proofs.walk.WalkState.go_on_at_sources.Given as goal
 
 abbrev pub invariant-loop-number : goal.invariant-loop-number

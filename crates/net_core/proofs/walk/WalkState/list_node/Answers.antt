@@ -1,7 +1,8 @@
 use Rattle.std.proofs.Common.{◌≡◌, false, refl, sym, ap, ◌∙◌}
-use Rattle.net_core.specs.Walk.{is_in, with_new}
-use Rattle.net_core.specs.Walking.{Listing}
-use Rattle.net_core.specs.WalkStates.{walk_in}
+use Rattle.cmd_tree.specs.Lists.{is_in}
+use Rattle.net_core.specs.Walk.{with_new}
+use Rattle.net_core.specs.Mirror.Walking.{Listing}
+use Rattle.net_core.specs.Mirror.WalkStates.{walk_in}
 use Rattle.net_core.proofs.Listings.{new_one}
 use Rattle.net_core.proofs.WalkStates.{walk_is, list_fresh}
 use Rattle.net_core.proofs.walk.WalkState.list_node.Goals as goal

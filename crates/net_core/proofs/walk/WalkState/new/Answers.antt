@@ -3,7 +3,7 @@ use Rattle.std.specs.Prelude.{slice_get, Some}
 use Rattle.std.proofs.lemmas.Option.{slice_get_read}
 use Rattle.net_core.specs.Wiring.{Node, Circuit}
 use Rattle.net_core.specs.Walk.{with_new, ends_at}
-use Rattle.net_core.specs.Walking.{Listing}
+use Rattle.net_core.specs.Mirror.Walking.{Listing}
 use Rattle.net_core.proofs.Listings.{new_one}
 use Rattle.net_core.proofs.WalkStates.{walk_is}
 use Rattle.net_core.proofs.walk.WalkState.new.Goals as goal

@@ -1,5 +1,5 @@
 use Rattle.std.proofs.Common.{arith}
-use Rattle.net_core.specs.WalkStates.{walk_in}
+use Rattle.net_core.specs.Mirror.WalkStates.{walk_in}
 use Rattle.net_core.proofs.WalkSteps.{leads_same, leads_step, leads_then}
 use Rattle.net_core.proofs.walk.WalkState.visit_all.Goals as goal
 

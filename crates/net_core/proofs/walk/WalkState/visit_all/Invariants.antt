@@ -1,6 +1,6 @@
 use Rattle.std.proofs.Common.{◌-◌}
-use Rattle.net_core.specs.Walking.{Leads}
-use Rattle.net_core.specs.WalkStates.{walk_in, Walks}
+use Rattle.net_core.specs.Mirror.Walking.{Leads}
+use Rattle.net_core.specs.Mirror.WalkStates.{walk_in, Walks}
 use Rattle.net_core.proofs.walk.WalkState.visit_all.Given as goal
 
 abbrev pub invariant-loop-self : goal.invariant-loop-self

@@ -3,7 +3,7 @@ use Rattle.std.specs.List.{AllByRecursion}
 use Rattle.std.proofs.lemmas.Result.{on_ok_weaker}
 use Rattle.net_core.specs.Wiring.{Circuit, IsWired}
 use Rattle.net_core.specs.Walk.{list_node}
-use Rattle.net_core.specs.WalkStates.{walk_in, IsSized, Walks}
+use Rattle.net_core.specs.Mirror.WalkStates.{walk_in, IsSized, Walks}
 use Rattle.net_core.proofs.WalkSteps.{leads_step}
 use Rattle.net_core.proofs.WalkStates.{on_ok_both, goes_to, visited_few, wire_known, receiver_known, visit_step}
 use Rattle.net_core.proofs.walk.WalkState.visit_next.Goals as goal

@@ -1,8 +1,9 @@
--- What code that walks through a network keeps.
+-- Mirror of what the code that walks through a network keeps: marks, tables, and how far it is.
 use Rattle.std.specs.Prelude.{◌≡◌, ◌≢◌, ◌≤◌, ◌<◌, ℕ, nat_eq, Bool, true, false, List, length, slice_get, slice_index, slice_index_or}
 use Rattle.net_core.specs.Wiring.{Circuit}
 use Rattle.net_core.specs.Networks.{takes, end_node}
-use Rattle.net_core.specs.Walk.{Walk, is_in, source_at, walked}
+use Rattle.cmd_tree.specs.Lists.{is_in}
+use Rattle.net_core.specs.Walk.{Walk, source_at, walked}
 
 -- numbers in the order in which they came, and a bound that they are below
 pub record Listing : Type 0 where

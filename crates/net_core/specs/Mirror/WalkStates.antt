@@ -1,9 +1,9 @@
--- The walk that a state of the code stands for.
+-- Mirror of the state of the code that walks: the walk that it stands for.
 use Rattle.std.specs.Prelude.{◌≡◌, length}
 use Rattle.net_core.specs.declared.walk.WalkState.{WalkState}
 use Rattle.net_core.specs.Wiring.{Circuit}
 use Rattle.net_core.specs.Walk.{Walk, outset}
-use Rattle.net_core.specs.Walking.{Leads}
+use Rattle.net_core.specs.Mirror.Walking.{Leads}
 
 abbrev pub walk_in : WalkState → Walk
 walk_in s = record { listed = s.listed.numbers; numbered = s.numbered.numbers; visited = s.visited }

@@ -4,7 +4,7 @@ use Rattle.std.proofs.Common.{arith}
 use Rattle.std.proofs.lemmas.List.{append-nil}
 use Rattle.cmd_tree.specs.Rounds.{grown, tally, naught, Follows}
 use Rattle.cmd_tree.proofs.RoundsRule.{follows_end, follows_last, tally_end}
-use Rattle.net_core.proofs.Webs.{Move, Send, Land, Web, Stage, Decides, longer, marked, May, begin, next, next_all, Ready, Safe, Plays, WebSound, WebExact}
+use Rattle.net_laws.proofs.Webs.{Move, Send, Land, Web, Stage, Decides, longer, marked, May, begin, next, next_all, Ready, Safe, Plays, WebSound, WebExact}
 
 pub grown_cases : {W : Type 0} (same : W → W → Bool) → Decides same → (c : W → ℕ) (w v : W)
     → ((v ≡ w) × (grown same c w v ≡ suc (c v))) ⊎ ((v ≡ w → ⊥) × (grown same c w v ≡ c v))

@@ -3,9 +3,9 @@ use Rattle.std.proofs.Common.{◌≡◌, ℕ, zero, suc, ◌<◌, ◌≤◌, Boo
 use Rattle.std.proofs.lemmas.Bool.{cases_lt}
 use native.Mathlib.Decide.{ℕ_discrete}
 use Rattle.cmd_tree.specs.Rounds.{same_number, tally, naught}
-use Rattle.net_core.proofs.Webs.{Web, numbers_decide, Decides, test, test_decides, WebSound, WebExact}
-use Rattle.net_core.proofs.Told.{Lawful, Flows}
-use Rattle.net_core.proofs.Woven.{Grew, grew_same, grew_le, grew_other, Reads, Counting, Keeps, Draws, pull, give, show, web_sound, web_exact}
+use Rattle.net_laws.proofs.Webs.{Web, numbers_decide, Decides, test, test_decides, WebSound, WebExact}
+use Rattle.net_laws.proofs.Told.{Lawful, Flows}
+use Rattle.net_laws.proofs.Woven.{Grew, grew_same, grew_le, grew_other, Reads, Counting, Keeps, Draws, pull, give, show, web_sound, web_exact}
 
 -- The wires: input i, output j, and the one between the two components.
 pub data Wire : Type 0 where

@@ -2,9 +2,9 @@
 use Rattle.std.proofs.Common.{◌≡◌, ℕ, suc, ◌≤◌, true, false, List, ◌⊎◌, inl, inr, refl, sym, ap, subst, ◌∙◌, arith}
 use Rattle.std.proofs.Math.Path.{fun_ext}
 use Rattle.cmd_tree.specs.Rounds.{tally, naught}
-use Rattle.net_core.proofs.Webs.{Web, WebSound, WebExact}
-use Rattle.net_core.proofs.Told as Told
-use Rattle.net_core.proofs.Told.{Longer, Lawful, sent, got, Flows, Tends, Went, Leads, pulls, ends, longer_away, count_more, count_away, count_other}
+use Rattle.net_laws.proofs.Webs.{Web, WebSound, WebExact}
+use Rattle.net_laws.proofs.Told as Told
+use Rattle.net_laws.proofs.Told.{Longer, Lawful, sent, got, Flows, Tends, Went, Leads, pulls, ends, longer_away, count_more, count_away, count_other}
 
 -- G is F with one more w
 abbrev pub Grew : {W : Type 0} → (W → ℕ) → W → (W → ℕ) → Type 0
@@ -75,7 +75,7 @@ pub data Draws (N W : Type 0) (d : Web N W) (R : N → (W → ℕ) → W → Typ
       → ((y : W → ℕ) → Grew x q y → I y y → J y) → Draws N W d R I J q x
 
 module _ (N W : Type 0) (d : Web N W) (l : Lawful N W d) where
-  sent_grew : (t : N → List W) (w : W) (u : N → List W) → Longer N W t (d.driver w) w u → Grew (sent d t) w (sent d u)
+  pub sent_grew : (t : N → List W) (w : W) (u : N → List W) → Longer N W t (d.driver w) w u → Grew (sent d t) w (sent d u)
   sent_grew t w u h v = at (l.wires v w)
     where
       at : ((d.same_wire v w ≡ true) × (v ≡ w)) ⊎ ((d.same_wire v w ≡ false) × (v ≡ w → ⊥))
@@ -83,7 +83,7 @@ module _ (N W : Type 0) (d : Web N W) (l : Lawful N W d) where
       at (inl (e, p)) = inl (p, subst (λ x. sent d u x ≡ suc (sent d t x)) (sym p) (count_more N W d l t (d.driver w) w u h (d.driver w) refl))
       at (inr (e, p)) = inr (p, count_other N W d l t (d.driver w) w u h (d.driver v) v p)
 
-  got_grew : (t : N → List W) (w : W) (u : N → List W) → Longer N W t (d.receiver w) w u → Grew (got d t) w (got d u)
+  pub got_grew : (t : N → List W) (w : W) (u : N → List W) → Longer N W t (d.receiver w) w u → Grew (got d t) w (got d u)
   got_grew t w u h v = at (l.wires v w)
     where
       at : ((d.same_wire v w ≡ true) × (v ≡ w)) ⊎ ((d.same_wire v w ≡ false) × (v ≡ w → ⊥))
@@ -91,14 +91,14 @@ module _ (N W : Type 0) (d : Web N W) (l : Lawful N W d) where
       at (inl (e, p)) = inl (p, subst (λ x. got d u x ≡ suc (got d t x)) (sym p) (count_more N W d l t (d.receiver w) w u h (d.receiver w) refl))
       at (inr (e, p)) = inr (p, count_other N W d l t (d.receiver w) w u h (d.receiver v) v p)
 
-  got_same : (t : N → List W) (w : W) (u : N → List W) → Longer N W t (d.driver w) w u → (v : W) → got d u v ≡ got d t v
+  pub got_same : (t : N → List W) (w : W) (u : N → List W) → Longer N W t (d.driver w) w u → (v : W) → got d u v ≡ got d t v
   got_same t w u h v = at (l.wires v w)
     where
       at : ((d.same_wire v w ≡ true) × (v ≡ w)) ⊎ ((d.same_wire v w ≡ false) × (v ≡ w → ⊥)) → got d u v ≡ got d t v
       at (inl (e, p)) = subst (λ x. got d u x ≡ got d t x) (sym p) (count_away N W d l t (d.driver w) w u h (d.receiver w) (λ i. l.clean w (sym i)) w)
       at (inr (e, p)) = count_other N W d l t (d.driver w) w u h (d.receiver v) v p
 
-  sent_same : (t : N → List W) (w : W) (u : N → List W) → Longer N W t (d.receiver w) w u → (v : W) → sent d u v ≡ sent d t v
+  pub sent_same : (t : N → List W) (w : W) (u : N → List W) → Longer N W t (d.receiver w) w u → (v : W) → sent d u v ≡ sent d t v
   sent_same t w u h v = at (l.wires v w)
     where
       at : ((d.same_wire v w ≡ true) × (v ≡ w)) ⊎ ((d.same_wire v w ≡ false) × (v ≡ w → ⊥)) → sent d u v ≡ sent d t v

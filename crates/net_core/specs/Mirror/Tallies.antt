@@ -1,4 +1,4 @@
--- Counts of the drivers and the receivers of each wire, and what a network keeps of them.
+-- Mirror of the counts that a network keeps: how many drivers and receivers each wire has.
 use Rattle.std.specs.Prelude.{◌≡◌, ℕ, suc, ◌+◌, ◌<◌, ◌^◌, true, false, List, length, slice_index_or}
 use Rattle.std.specs.List.{AllByRecursion}
 use Rattle.net_core.specs.declared.spec.NodeSpec.{NodeSpec}

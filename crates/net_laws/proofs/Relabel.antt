@@ -2,8 +2,8 @@
 use Rattle.std.proofs.Common.{◌≡◌, ℕ, suc, Bool, List, [], ◌∷◌, ◌++◌, map, ◌⊎◌, inl, inr, refl, sym, ap, subst, ◌∙◌}
 use Rattle.std.proofs.lemmas.List.{map-append}
 use Rattle.cmd_tree.specs.Rounds.{grown, tally, naught, Follows}
-use Rattle.net_core.proofs.Webs.{Decides}
-use Rattle.net_core.proofs.Told.{grown_cases}
+use Rattle.net_laws.proofs.Webs.{Decides}
+use Rattle.net_laws.proofs.Told.{grown_cases}
 
 pub follows_map : {A B : Type 0} (a : List A → A → Type 0) (b : List B → B → Type 0) (g : A → B) → ((u : List A) (p : A) → a u p → b (map g u) (g p))
     → (u t : List A) → Follows a u t → Follows b (map g u) (map g t)

@@ -1,0 +1,10 @@
+pub mod Webs
+pub mod Told
+pub mod Woven
+pub mod GrownSums
+pub mod Relabel
+pub mod Rounds
+pub mod Paths
+pub mod Linked
+pub mod Among
+pub mod Routes

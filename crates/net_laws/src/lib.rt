@@ -1,0 +1,2 @@
+//! The laws by which networks are proved correct: webs of named nodes and wires, counts, one invariant, and charts.
+#![tactic(auto)]
