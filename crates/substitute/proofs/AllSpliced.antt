@@ -39,7 +39,7 @@ module _ (c : Circuit) (ps : List (Option Circuit)) (sized : length ps + 1 ≡ l
       whole_closed = subst IsClosed (sym whole_is) (all_closed c 1 ps fitting closed)
 
       pub whole_few : c.wires + wires_in ps < 2 ^ 31 → length nodes < 2 ^ 32
-      whole_few few = omega (arith, nodes_few whole whole_network whole_closed, wires_few c.wires ps)
+      whole_few few = omega (arith, nodes_few whole whole_network.wired whole_closed, wires_few c.wires ps)
 
 -- what holds of the network that is made holds of the one that the call gives
 pub given : {E : Type 0} (P : Circuit → Type 0) (d : Circuit) (r : Result Circuit E) → IfOk r (λ w. w ≡ d) → P d → IfOk r P

@@ -11,7 +11,7 @@ ghost use Rattle.substitute.specs.Splices.{all_spliced, FitEach, wires_in, EachP
 ghost use Rattle.substitute.specs.OnePass.{in_place, wires_with, all_in_place, wires_with_all};
 
 use crate::parts::{Parts, new_parts};
-use net_core::{Net, Node, copy_spec};
+use net_core::{Net, Node, copy_spec, network_law};
 use std::alloc::{AllocError, Global};
 
 /// The network with each part in the place of its node, an entry for each component: node 1 has the first part,
@@ -31,6 +31,7 @@ pub fn splice_all(alloc: Global, net: &Net, parts: &[Option<Net>]) -> Result<Net
         → IfOk result (λ whole. Correct whole s) }
     ensures components { IfOk result (λ whole. specs_in whole ≡ specs_after (drop 1 net.now.nodes) parts.now) }
 {
+    network_law(net);
     let whole = put_all(alloc, net, parts)?;
     Net::of_nodes(alloc, whole.nodes, whole.wires)
 }

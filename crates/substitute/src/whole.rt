@@ -9,7 +9,7 @@ ghost use Rattle.net_core.specs.Walk.{ends_at};
 
 use crate::parts::{new_parts, wires_of};
 use crate::renumber::repeated;
-use net_core::{Net, same_spec};
+use net_core::{Net, network_law, same_spec};
 use std::alloc::{AllocError, Global};
 
 /// Why a network does not take the place of a node.
@@ -79,8 +79,8 @@ fn obstacle(alloc: Global, net: &Net, at: u32, sub: &Net) -> Option<SpliceRefusa
     requires inside { at < length net.now.nodes }
     ensures { MatchOption result (Fitting net.now at sub.now) (λ refusal. Refuses net.now at sub.now refusal) }
 {
-    well(net);
-    well(sub);
+    network_law(net);
+    network_law(sub);
     if !is_same(net, at, sub) {
         return Some(SpliceRefusal::SpecDiffers);
     }
@@ -93,14 +93,6 @@ fn obstacle(alloc: Global, net: &Net, at: u32, sub: &Net) -> Option<SpliceRefusa
             Ok(None) => None,
         },
     }
-}
-
-/// Each node of a network has its wires, and it has an environment.
-fn well(net: &Net)
-    ensures fit { AllByRecursion (IsWired net.now.wires) net.now.nodes }
-    ensures some { 0 < length net.now.nodes }
-{
-    let _ = &net.nodes;
 }
 
 fn is_same(net: &Net, at: u32, sub: &Net) -> bool
