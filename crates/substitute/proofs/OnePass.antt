@@ -1,11 +1,15 @@
 -- One pass over the nodes makes the network of one splice after the other.
-use Rattle.std.proofs.Common.{◌≡◌, ℕ, zero, suc, ◌+◌, ◌-◌, ◌<◌, ◌≤◌, List, [], ◌∷◌, ◌++◌, length, map, take, drop, Option, None, Some, refl, sym, ap, ◌∙◌, subst, arith, append_assoc, append-nil, length-append, length-drop}
+use Rattle.std.proofs.Common.{◌≡◌, ℕ, zero, suc, Bool, IsTrue, ◌+◌, ◌-◌, ◌<◌, ◌≤◌, List, [], ◌∷◌, ◌++◌, length, map, take, drop, Option, None, Some, refl, sym, ap, ◌∙◌, subst, arith, append_assoc, append-nil, length-append, length-drop}
 use Rattle.std.specs.Prelude.{slice_get}
+use Rattle.std.specs.List.{AllByRecursion, sum_by}
 use Rattle.std.proofs.lemmas.List.{length-map}
+use Rattle.std.proofs.lemmas.List.Sums.{sum_by-cons, sum_by-append}
+use Rattle.basic_kinds.proofs.Projections.{front_all}
+use Rattle.net_core.specs.declared.spec.NodeSpec.{NodeSpec}
 use Rattle.net_core.specs.Wiring.{Node, Circuit, moved}
 use Rattle.net_core.specs.Walk.{ends_at}
 use Rattle.substitute.specs.Splice.{renumber_at, renumber, rank, is_inner, spliced}
-use Rattle.substitute.specs.Splices.{all_spliced, specs_in, specs_after, wires_in}
+use Rattle.substitute.specs.Splices.{all_spliced, specs_in, specs_after, wires_in, PassAfter, sum_after}
 use Rattle.substitute.specs.OnePass.{in_place, wires_with, all_in_place, wires_with_all}
 use Rattle.substitute.proofs.Tables.{rank_few}
 
@@ -84,6 +88,44 @@ placed_specs n (x ∷ xs) (None ∷ ps) = ap (λ t. x.spec ∷ t) (placed_specs 
 placed_specs n (x ∷ xs) (Some m ∷ ps) =
     specs_append (in_place n x (Some m)) (all_in_place (wires_with n (Some m)) xs ps)
     ∙ (λ i. moved_specs (renumber_at x.ends n m) (drop 1 m.nodes) i ++ placed_specs (wires_with n (Some m)) xs ps i)
+
+moved_pass : (test : NodeSpec → Bool) (g : ℕ → ℕ) (xs : List Node) → AllByRecursion (λ x. IsTrue (test x.spec)) xs
+    → AllByRecursion (λ x. IsTrue (test x.spec)) (map (moved g) xs)
+moved_pass test g [] h = tt
+moved_pass test g (x ∷ xs) h = (h.0, moved_pass test g xs h.1)
+
+pub placed_pass : (test : NodeSpec → Bool) (n : ℕ) (xs : List Node) (ps : List (Option Circuit)) → PassAfter test xs ps
+    → AllByRecursion (λ x. IsTrue (test x.spec)) (all_in_place n xs ps)
+placed_pass test n [] ps h = tt
+placed_pass test n (x ∷ xs) [] h = (h.0, placed_pass test n xs [] h.1)
+placed_pass test n (x ∷ xs) (None ∷ ps) h = (h.0, placed_pass test n xs ps h.1)
+placed_pass test n (x ∷ xs) (Some m ∷ ps) h =
+    let k : ℕ = wires_with n (Some m) in
+    front_all (λ y. IsTrue (test y.spec)) (in_place n x (Some m)) (all_in_place k xs ps)
+        (moved_pass test (renumber_at x.ends n m) (drop 1 m.nodes) h.0) (placed_pass test k xs ps h.1)
+
+moved_sum : (f : NodeSpec → ℕ) (g : ℕ → ℕ) (xs : List Node) → sum_by (λ x. f x.spec) (map (moved g) xs) ≡ sum_by (λ x. f x.spec) xs
+moved_sum f g [] = refl
+moved_sum f g (x ∷ xs) = omega (
+  arith,
+  sum_by-cons (λ y. f y.spec) (moved g x) (map (moved g) xs),
+  sum_by-cons (λ y. f y.spec) x xs,
+  moved_sum f g xs,
+)
+
+pub placed_sum : (f : NodeSpec → ℕ) (n : ℕ) (xs : List Node) (ps : List (Option Circuit))
+    → sum_by (λ x. f x.spec) (all_in_place n xs ps) ≡ sum_after f xs ps
+placed_sum f n [] ps = refl
+placed_sum f n (x ∷ xs) [] = omega (arith, sum_by-cons (λ y. f y.spec) x (all_in_place n xs []), placed_sum f n xs [])
+placed_sum f n (x ∷ xs) (None ∷ ps) = omega (arith, sum_by-cons (λ y. f y.spec) x (all_in_place n xs ps), placed_sum f n xs ps)
+placed_sum f n (x ∷ xs) (Some m ∷ ps) =
+    let k : ℕ = wires_with n (Some m) in
+    omega (
+      arith,
+      sum_by-append (λ y. f y.spec) (in_place n x (Some m)) (all_in_place k xs ps),
+      moved_sum f (renumber_at x.ends n m) (drop 1 m.nodes),
+      placed_sum f k xs ps,
+    )
 
 pub wires_few : (n : ℕ) (ps : List (Option Circuit)) → wires_with_all n ps ≤ n + wires_in ps
 wires_few n [] = omega arith

@@ -5,6 +5,7 @@ use Rattle.std.specs.List.{AllByRecursion}
 use Rattle.net_core.specs.declared.spec.NodeSpec.{NodeSpec}
 use Rattle.net_core.specs.Wiring.{Node, Circuit, IsNetwork, IsClosed}
 use Rattle.net_core.specs.Networks.{IsClean, IsSpecified}
+use Rattle.net_core.specs.Renumbering.{sum_of_parts}
 use Rattle.substitute.specs.Splice.{spliced, Fitting}
 
 -- Each part takes the place of its node, from node k on, and where there is no part the node stays. The node after a part
@@ -54,3 +55,21 @@ specs_after [] ps = []
 specs_after (x ∷ xs) [] = x.spec ∷ specs_after xs []
 specs_after (x ∷ xs) (None ∷ ps) = x.spec ∷ specs_after xs ps
 specs_after (x ∷ xs) (Some m ∷ ps) = specs_in m ++ specs_after xs ps
+
+-- each component of a network passes the test
+abbrev pub PassIn : (NodeSpec → Bool) → Circuit → Type 0
+PassIn test c = AllByRecursion (λ x. IsTrue (test x.spec)) (drop 1 c.nodes)
+
+-- each of these components passes that stays, and each component of the parts
+abbrev pub PassAfter : (NodeSpec → Bool) → List Node → List (Option Circuit) → Type 0
+PassAfter test [] ps = ⊤
+PassAfter test (x ∷ xs) [] = IsTrue (test x.spec) × PassAfter test xs []
+PassAfter test (x ∷ xs) (None ∷ ps) = IsTrue (test x.spec) × PassAfter test xs ps
+PassAfter test (x ∷ xs) (Some m ∷ ps) = PassIn test m × PassAfter test xs ps
+
+-- the sum of a number of each of these components that stays, and of each component of the parts
+abbrev pub sum_after : (NodeSpec → ℕ) → List Node → List (Option Circuit) → ℕ
+sum_after f [] ps = 0
+sum_after f (x ∷ xs) [] = f x.spec + sum_after f xs []
+sum_after f (x ∷ xs) (None ∷ ps) = f x.spec + sum_after f xs ps
+sum_after f (x ∷ xs) (Some m ∷ ps) = sum_of_parts f m + sum_after f xs ps

@@ -1,5 +1,5 @@
 //! Networks in the places of several nodes of another, in one pass over them all.
-ghost use Rattle.std.specs.Prelude.{◌≡◌, ℕ, ◌+◌, ◌<◌, ◌^◌, [], ◌∷◌, ◌++◌, length, take, drop, IfOk, OnOk};
+ghost use Rattle.std.specs.Prelude.{◌≡◌, ℕ, ◌+◌, ◌<◌, ◌^◌, [], ◌∷◌, ◌++◌, Bool, length, take, drop, IfOk, OnOk};
 ghost use Rattle.std.specs.Option.{IfSome};
 ghost use Rattle.std.specs.List.{AllByRecursion, sum_by};
 ghost use Rattle.net_core.specs.declared.spec.NodeSpec.{NodeSpec};
@@ -7,7 +7,7 @@ ghost use Rattle.net_core.specs.Wiring.{Circuit, Node, IsNetwork, IsClosed};
 ghost use Rattle.net_core.specs.Networks.{IsClean, SoundFor, Correct};
 ghost use Rattle.net_core.specs.Renumbering.{sum_of_parts};
 ghost use Rattle.substitute.specs.Splice.{FitsAt};
-ghost use Rattle.substitute.specs.Splices.{all_spliced, FitEach, wires_in, EachPart, specs_in, specs_after};
+ghost use Rattle.substitute.specs.Splices.{all_spliced, FitEach, wires_in, EachPart, specs_in, specs_after, PassIn, PassAfter, sum_after};
 ghost use Rattle.substitute.specs.OnePass.{in_place, wires_with, all_in_place, wires_with_all};
 
 use crate::parts::{Parts, new_parts};
@@ -30,6 +30,8 @@ pub fn splice_all(alloc: Global, net: &Net, parts: &[Option<Net>]) -> Result<Net
     ensures correct { (s : NodeSpec) → Correct net.now s → EachPart (λ m. (t : NodeSpec) × Correct m t) parts.now
         → IfOk result (λ whole. Correct whole s) }
     ensures components { IfOk result (λ whole. specs_in whole ≡ specs_after (drop 1 net.now.nodes) parts.now) }
+    ensures passing { (test : NodeSpec → Bool) → PassAfter test (drop 1 net.now.nodes) parts.now → IfOk result (λ whole. PassIn test whole) }
+    ensures sums { (f : NodeSpec → ℕ) → IfOk result (λ whole. sum_of_parts f whole ≡ sum_after f (drop 1 net.now.nodes) parts.now) }
 {
     network_law(net);
     let whole = put_all(alloc, net, parts)?;

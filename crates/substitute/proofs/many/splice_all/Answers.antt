@@ -3,9 +3,10 @@ use Rattle.std.specs.Prelude.{IfOk}
 use Rattle.net_core.specs.declared.spec.NodeSpec.{NodeSpec}
 use Rattle.net_core.specs.Wiring.{Circuit, IsClosed}
 use Rattle.net_core.specs.Networks.{IsClean, SoundFor, Correct}
-use Rattle.substitute.specs.Splices.{all_spliced, specs_in, specs_after}
+use Rattle.net_core.specs.Renumbering.{sum_of_parts}
+use Rattle.substitute.specs.Splices.{all_spliced, specs_in, specs_after, PassIn, sum_after}
 use Rattle.substitute.proofs.Turns.{all_closed, all_clean, all_sound, all_correct}
-use Rattle.substitute.proofs.AllSpliced.{whole_is, whole_specs, whole_network, whole_closed, whole_few, given}
+use Rattle.substitute.proofs.AllSpliced.{whole_is, whole_specs, whole_pass, whole_sum, whole_network, whole_closed, whole_few, given}
 use Rattle.substitute.proofs.many.splice_all.Goals as goal
 
 pub of_nodes-requires-clause-few : goal.of_nodes-requires-clause-few
@@ -62,3 +63,14 @@ returns-clause-components c =
         (record { nodes = c.in_ok-whole.whole.nodes.items; wires = c.in_ok-whole.whole.wires }) c.of_nodes.result c.of_nodes.ensures (whole_specs c.args.net.now c.args.parts.now c.requires.sized c.in_ok-whole.whole.nodes.items c.in_ok-whole.whole.wires
         c.in_ok-whole.ensures.nodes c.in_ok-whole.ensures.wires)
 
+pub returns-clause-passing : goal.returns-clause-passing
+returns-clause-passing c =
+    λ test h. given (λ d. PassIn test d)
+        (record { nodes = c.in_ok-whole.whole.nodes.items; wires = c.in_ok-whole.whole.wires }) c.of_nodes.result c.of_nodes.ensures (whole_pass c.args.net.now c.args.parts.now c.requires.sized c.in_ok-whole.whole.nodes.items c.in_ok-whole.whole.wires
+        c.in_ok-whole.ensures.nodes c.in_ok-whole.ensures.wires test h)
+
+pub returns-clause-sums : goal.returns-clause-sums
+returns-clause-sums c =
+    λ f. given (λ d. sum_of_parts f d ≡ sum_after f (drop 1 c.args.net.now.nodes) c.args.parts.now)
+        (record { nodes = c.in_ok-whole.whole.nodes.items; wires = c.in_ok-whole.whole.wires }) c.of_nodes.result c.of_nodes.ensures (whole_sum c.args.net.now c.args.parts.now c.requires.sized c.in_ok-whole.whole.nodes.items c.in_ok-whole.whole.wires
+        c.in_ok-whole.ensures.nodes c.in_ok-whole.ensures.wires f)
