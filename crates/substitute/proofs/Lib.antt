@@ -15,3 +15,6 @@ pub mod OnePass
 pub mod Turns
 pub mod Passes
 pub mod AllSpliced
+pub mod Stamps
+pub mod Looked
+pub mod Looks

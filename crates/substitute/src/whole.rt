@@ -95,7 +95,8 @@ fn obstacle(alloc: Global, net: &Net, at: u32, sub: &Net) -> Option<SpliceRefusa
     }
 }
 
-fn is_same(net: &Net, at: u32, sub: &Net) -> bool
+/// Whether the node is specified as the network's environment is.
+pub fn is_same(net: &Net, at: u32, sub: &Net) -> bool
     requires inside { at < length net.now.nodes }
     ensures { IsTrue result ↔ IsSame net.now at sub.now }
 {
@@ -103,7 +104,7 @@ fn is_same(net: &Net, at: u32, sub: &Net) -> bool
 }
 
 /// The least wire that goes from the node to itself.
-fn around(alloc: Global, net: &Net, node: u32) -> Result<Option<u32>, AllocError>
+pub fn around(alloc: Global, net: &Net, node: u32) -> Result<Option<u32>, AllocError>
     requires closed { IsClosed net.now }
     requires inside { node < length net.now.nodes }
     ensures { IfOk result (λ found. MatchOption found (IsNone (IsAround net.now node) net.now.wires) (λ w. IsLeast (IsAround net.now node) net.now.wires w)) }
