@@ -1,7 +1,6 @@
 pub mod FormPorts
 pub mod FormNet
 pub mod FormShapes
-pub mod Lines
 pub mod Compiling
 pub mod Endings
 pub mod Sourcing

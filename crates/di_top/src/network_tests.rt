@@ -1,11 +1,11 @@
 ghost use Rattle.std.specs.Prelude.{◌≡◌, length, IfOk};
 
 use crate::command::read_command;
-use crate::netlist::{Netlist, put_netlist};
 use basic_kinds::Kind;
 use cmd_tree::Command;
 use di_io::MemSink;
 use net_core::{Net, NetBuilder, NodeSpec, closed, order};
+use net_text::write_net;
 use std::alloc::Global;
 use std::process::Abort;
 use std::test::Fail;
@@ -42,8 +42,7 @@ fn orders_a_join_before_its_fork(rt: HostRuntime) -> Result<(), Fail> {
         panic!(rt; "no memory");
     };
     let mut sink = MemSink::new(alloc, 1000, Vec::new(alloc))?;
-    let netlist = Netlist::new(alloc, net)?;
-    assert_eq!(rt; put_netlist(&netlist, &mut sink), Ok(()));
+    assert_eq!(rt; write_net(&net, &mut sink), Ok(()));
     let text =
         "dinet 1\nspec pref*[(a?||b?);(c!||d!)]\nport a? 0\nport b? 1\nport c! 2\nport d! 3\nC 0 1 > 4\nFORK 4 > 2 3\nend\n";
     assert!(rt; sink.bytes() == text.as_bytes());
