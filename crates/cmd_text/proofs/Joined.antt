@@ -14,10 +14,6 @@ use Rattle.cmd_text.specs.Canonical.{mark_text, marks_led, burst_text, items_led
 drop_next : {A : Type 0} (xs : List A) (i : ℕ) (x : A) → i < length xs → x ≡ get_or xs i x → drop i xs ≡ x ∷ drop (i + 1) xs
 drop_next {A} xs i x h is = rw add-one (drop-cons xs i x h ∙ ap (λ (y : A). y ∷ drop (suc i) xs) (sym is))
 
-pub marks_next : (names : List (List ℕ)) (led : List ℕ) (xs : List Mark) (i : ℕ) (x : Mark) → i < length xs → x ≡ get_or xs i x
-    → marks_led names led (drop i xs) ≡ led ++ mark_text names x ++ marks_led names (codes "||") (drop (i + 1) xs)
-marks_next names led xs i x h is = ap (λ (ys : List Mark). marks_led names led ys) (drop_next xs i x h is)
-
 pub marks_none : (names : List (List ℕ)) (led : List ℕ) (xs : List Mark) (i : ℕ) → length xs ≤ i → marks_led names led (drop i xs) ≡ []
 marks_none names led xs i h = ap (λ (ys : List Mark). marks_led names led ys) (drop_all i xs h)
 
@@ -46,20 +42,14 @@ pub marks_at : (names : List (List ℕ)) (led : List ℕ) (xs : List Mark) (i : 
     → marks_led names led (drop i xs) ≡ led ++ mark_text names (get_or xs i d) ++ marks_led names (codes "||") (drop (i + 1) xs)
 marks_at names led xs i d h = rw add-one (ap (λ (ys : List Mark). marks_led names led ys) (drop-cons xs i d h))
 
--- a burst of one mark, and of more
-pub burst_one : (names : List (List ℕ)) (ms : List Mark) (d : Mark) → 1 ≤ length ms → length ms < 2
-    → mark_text names (get_or ms 0 d) ≡ burst_text names ms
-burst_one names [] d h l = absurd (omega arith)
-burst_one names (m ∷ []) d h l = refl
-burst_one names (m ∷ n ∷ ms) d h l = absurd (omega arith)
+-- what is left of each list, with its next item and with none
+pub ruleset joined = (marks_at, marks_none, items_next, items_none, seqs_next, seqs_none, procs_next, procs_none)
 
-pub burst_more : (names : List (List ℕ)) (ms : List Mark) → 2 ≤ length ms
-    → codes "(" ++ marks_led names [] ms ++ codes ")" ≡ burst_text names ms
-burst_more names [] h = absurd (omega arith)
-burst_more names (m ∷ []) h = absurd (omega arith)
-burst_more names (m ∷ n ∷ ms) h = refl
+-- a body of no item, of one, and of more
+pub body_none : (names : List (List ℕ)) (xs : List Item) (s : TSeq) → length xs < 1 → seq_of xs ≡ s → [] ≡ body_text names s
+body_none names [] s h e = ap (λ (t : TSeq). body_text names t) e
+body_none names (x ∷ xs) s h e = absurd (omega arith)
 
--- a body of one item, and of more
 pub body_one : (names : List (List ℕ)) (xs : List Item) (s : TSeq) (x : Item) → 1 ≤ length xs → length xs < 2 → x ≡ get_or xs 0 x → seq_of xs ≡ s
     → bare_text names (item_of x) ≡ body_text names s
 body_one names [] s x h l is e = absurd (omega arith)
@@ -70,11 +60,6 @@ pub body_more : (names : List (List ℕ)) (xs : List Item) (s : TSeq) → 2 ≤ 
 body_more names [] s h e = absurd (omega arith)
 body_more names (x ∷ []) s h e = absurd (omega arith)
 body_more names (x ∷ y ∷ xs) s h e = let P : TSeq → Type 0 = λ t. seq_text names t ≡ body_text names t in subst P e refl
-
--- a choice
-pub alt_is : (names : List (List ℕ)) (x : Item) (xs ss : List TSeq) → xs ≡ ss → x ≡ Alt ss
-    → codes "(" ++ seqs_led names [] (seqs_of xs) ++ codes ")" ≡ item_text names (item_of x)
-alt_is names x xs ss e h = ap (λ (ys : List TSeq). codes "(" ++ seqs_led names [] (seqs_of ys) ++ codes ")") e ∙ ap (λ (y : Item). item_text names (item_of y)) (sym h)
 
 pub name_none : (names : List (List ℕ)) (i : ℕ) → slice_get names i ≡ None → [] ≡ get_or names i []
 name_none names i h = rw h at (unwrap_or-slice_get names i [])

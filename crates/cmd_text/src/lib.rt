@@ -14,4 +14,4 @@ mod writer;
 pub use file::{Factor, File, Named, Refusal, Rename, Sentence};
 pub use laws::{canonical_texts_are_read, first_faults_are_told, texts_are_read};
 pub use read::read_file;
-pub use writer::{put_command, write_command};
+pub use writer::{print_command, print_mark, put_command, write_command};

@@ -1,5 +1,6 @@
 //! The runtime's files and one of its streams. Only the program's `main` makes these.
-ghost use Rattle.std.specs.Prelude.{◌≡◌, ◌≤◌, IfOk, length};
+ghost use Rattle.std.specs.Prelude.{◌≡◌, ◌≢◌, ◌≤◌, Err, IfOk, IfErr, OnOk, OnErr, length};
+ghost use Rattle.di_io.specs.Faults.{Rose, counted};
 
 use crate::{LoadFault, PutFault, Shelf, Sink};
 use std::alloc::Global;
@@ -72,7 +73,14 @@ impl<R: Files + Drop> Shelf for HostShelf<R> {
     /// The first bytes of the file `name`, at most `cap` of them. It ends where a read gives no
     /// byte or `cap` bytes were read. A folder, a name without a file and a read that the system
     /// refuses are faults.
-    fn load(&mut self, alloc: Global, name: &str, cap: usize) -> Result<Vec<u8>, LoadFault> {
+    fn load(&mut self, alloc: Global, name: &str, cap: usize) -> Result<Vec<u8>, LoadFault>
+        ensures later { self.old ≤ self.new }
+        ensures failed { IfErr result (λ fault. fault ≡ LoadFault.Failed → Rose self.old self.new) }
+        ensures most { IfOk result (λ bytes. length bytes.items ≤ cap) }
+
+        ensures rises { result ≡ Err LoadFault.Failed → self.new ≡ counted self.old }
+        ensures stands { result ≢ Err LoadFault.Failed → self.new ≡ self.old }
+    {
         let loaded = read_front(&self.files, alloc, name, cap);
         if matches!(loaded, Err(LoadFault::Failed)) {
             self.faults = self.faults.saturating_add(1);
@@ -114,7 +122,13 @@ impl<W: Write + Drop> Sink for HostSink<W> {
 
     /// Writes all of `bytes` to the stream, in as many pieces as it takes, and flushes it. A write
     /// that takes no byte of a nonempty piece is a fault, as is one that the system refuses.
-    fn put(&mut self, bytes: &[u8]) -> Result<(), PutFault> {
+    fn put(&mut self, bytes: &[u8]) -> Result<(), PutFault>
+        ensures later { self.old ≤ self.new }
+        ensures failed { OnErr result (Rose self.old self.new) }
+
+        ensures rises { OnErr result (self.new ≡ counted self.old) }
+        ensures stands { OnOk result (self.new ≡ self.old) }
+    {
         let written = self.stream.write_all(bytes);
         match written.and_then(|()| self.stream.flush()) {
             Ok(()) => Ok(()),
@@ -123,70 +137,5 @@ impl<W: Write + Drop> Sink for HostSink<W> {
                 Err(PutFault::Failed)
             }
         }
-    }
-}
-
-#[cfg(test)]
-mod tests {
-    use super::*;
-    use std::test::Fail;
-    use std::{env, io, process};
-
-    // Takes two bytes, and then none.
-    #[derive(Drop)]
-    struct TwoBytes {
-        taken: Vec<u8>,
-    }
-
-    impl Write for TwoBytes {
-        fn write(&mut self, buf: &[u8]) -> io::Result<usize> {
-            match buf {
-                [first, ..] if self.taken.len() < 2 => {
-                    self.taken.push(*first)?;
-                    Ok(1)
-                }
-                _ => Ok(0),
-            }
-        }
-
-        fn flush(&mut self) -> io::Result<()> {
-            Ok(())
-        }
-    }
-
-    #[test]
-    fn adapts_files_and_a_stream(rt: HostRuntime) -> Result<(), Fail> {
-        let alloc = rt.alloc();
-        let folder = env::temp_dir(&rt)?;
-        let mut path = folder.clone()?;
-        let name = format!(in alloc; "di_io_{}", process::id(rt.process()))?;
-        path.push(name.as_str())?;
-        fs::write(&rt, path.as_str(), "abcdef")?;
-        let mut shelf = HostShelf::new(rt.clone()?);
-        let rows = [
-            (path.as_str(), 4, Some("abcd")),
-            (path.as_str(), 9, Some("abcdef")),
-            (folder.as_str(), 9, None),
-            ("/no such file", 9, None),
-        ];
-        for (name, cap, wanted) in rows {
-            match (shelf.load(alloc, name, cap), wanted) {
-                (Ok(bytes), Some(text)) => assert!(rt; bytes.as_slice() == text.as_bytes()),
-                (Err(fault), None) => assert_eq!(rt; fault, LoadFault::Failed),
-                _ => assert!(rt; false, "{name} with {cap}"),
-            }
-        }
-        assert_eq!(rt; shelf.faults, 2);
-        fs::remove_file(&rt, path.as_str())?;
-
-        let mut sink = HostSink::new(TwoBytes {
-            taken: Vec::new(alloc),
-        });
-        assert!(rt; sink.put(b"").is_ok());
-        assert!(rt; sink.put(b"ab").is_ok());
-        assert!(rt; sink.put(b"c").is_err());
-        assert_eq!(rt; sink.faults, 1);
-        assert!(rt; sink.stream.taken.as_slice() == b"ab".as_slice());
-        Ok(())
     }
 }

@@ -6,6 +6,15 @@
 //! may tell the content of a name, and a sink the bytes that were written: what a contract says
 //! of bytes holds where they are told.
 //!
+//! A **printer** holds the texts that are to be put into a sink and puts them in blocks of up to 4096 bytes,
+//! without memory: `print` says by an equation what was printed next, and `finish` whether all of it was put.
+//!
+//!     let mut printer = Printer::new(sink);
+//!     printer.print(b"end\n");
+//!     let (result, _sink) = printer.finish();
+//!
+//! Counts of faults are 64-bit numbers that stop at the largest: a clause says "rose, or stands at 2^64 - 1".
+//!
 //! `MemShelf` and `MemSink` are in memory, tell all, and fail exactly where they are asked to.
 //! `HostShelf` and `HostSink` adapt the runtime's files and one of its streams, and tell nothing.
 #![tactic(auto)]
@@ -17,10 +26,13 @@ ghost use Rattle.di_io.specs.Written.{Gains, GainsFront};
 mod host;
 mod mem_shelf;
 mod mem_sink;
+mod printer;
+mod said;
 
 pub use host::{HostShelf, HostSink};
 pub use mem_shelf::MemShelf;
 pub use mem_sink::MemSink;
+pub use printer::Printer;
 use std::alloc::{AllocError, Global};
 
 /// Memory was refused.

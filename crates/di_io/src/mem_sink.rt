@@ -153,32 +153,3 @@ impl Sink for MemSink {
         }
     }
 }
-
-#[cfg(test)]
-mod tests {
-    use super::*;
-    use std::test::Fail;
-
-    // Puts in turn, each with whether it succeeds and what is written after it.
-    #[test]
-    fn puts(rt: HostRuntime) -> Result<(), Fail> {
-        let alloc = rt.alloc();
-        let fails = vec![in alloc; (2, 1), (4, 9), (2, 3), (7, 0)]?;
-        let rows = [
-            ("abc", true, "abc"),
-            ("def", false, "abcd"),
-            ("1234567", false, "abcd"),
-            ("xy", false, "abcdxy"),
-            ("1234", true, "abcdxy1234"),
-            ("5", false, "abcdxy1234"),
-            ("", false, "abcdxy1234"),
-            ("", true, "abcdxy1234"),
-        ];
-        let mut sink = MemSink::new(alloc, 10, fails)?;
-        for (text, succeeds, written) in rows {
-            assert_eq!(rt; sink.put(text.as_bytes()).is_ok(), succeeds, "{text}");
-            assert!(rt; sink.bytes() == written.as_bytes(), "{text}");
-        }
-        Ok(())
-    }
-}

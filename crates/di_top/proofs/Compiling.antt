@@ -12,7 +12,7 @@ use Rattle.di_top.specs.declared.outcome.Outcome.TheVariants.{Done, Refused, NoM
 use Rattle.di_top.specs.declared.outcome.Why.TheVariants.{NotThisForm}
 use Rattle.di_top.specs.Forms.{TakesThenGives, Compiles, IsFormed}
 use Rattle.di_top.specs.FormNets.{form_net}
-use Rattle.di_top.specs.NetText.{net_text}
+use Rattle.net_text.specs.NetText.{net_text}
 use Rattle.di_top.specs.Requests.{CompileWide, Check}
 use Rattle.di_top.specs.Calls.{Reading, Loaded}
 use Rattle.di_top.specs.CommandFiles.{command_cap, StopsWith, FileStops, Bytes, FileHolds, FileGives, Stopped, Taken}

@@ -1,10 +1,6 @@
-pub mod Sides
 pub mod FormPorts
-pub mod OneNet
-pub mod JoinNet
 pub mod FormNet
 pub mod FormShapes
-pub mod Lines
 pub mod Compiling
 pub mod Endings
 pub mod Sourcing

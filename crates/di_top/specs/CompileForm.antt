@@ -11,7 +11,7 @@ use Rattle.di_top.specs.declared.outcome.Outcome.TheVariants.{Done, Refused}
 use Rattle.di_top.specs.declared.outcome.Why.TheVariants.{NotThisForm}
 use Rattle.di_top.specs.Forms.{Compiles, IsFormed}
 use Rattle.di_top.specs.FormNets.{form_net}
-use Rattle.di_top.specs.NetText.{net_text}
+use Rattle.net_text.specs.NetText.{net_text}
 use Rattle.di_top.specs.Calls.{Reading}
 use Rattle.di_top.specs.CommandFiles.{IsAdmittedText, FileHolds, FileGives, FileAdmits}
 

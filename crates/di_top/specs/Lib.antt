@@ -1,12 +1,9 @@
 pub mod Forms
 pub mod FormNets
-pub mod NetText
-pub mod Decimals
 pub mod Say
 pub mod Requests
 pub mod Calls
 pub mod Asked
-pub mod Netlists
 pub mod Plans
 pub mod CommandFiles
 pub mod CompileForm

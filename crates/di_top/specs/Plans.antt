@@ -4,11 +4,11 @@ use Rattle.di_top.specs.declared.outcome.Outcome.{Outcome}
 use Rattle.di_top.specs.declared.outcome.Outcome.TheVariants.{Done, Refused, Usage, ReadFault, WriteFault, NoMemory, Limit}
 use Rattle.di_top.specs.declared.plan.Plan.{Plan}
 use Rattle.di_top.specs.declared.plan.Plan.TheVariants.{Compile, Check}
-use Rattle.di_top.specs.NetText.{net_text}
+use Rattle.net_text.specs.NetText.{net_text}
 use Rattle.di_top.specs.CheckForm.{counts_text}
 
 abbrev pub text_of : Plan → List ℕ
-text_of (Compile netlist) = net_text netlist.net
+text_of (Compile net) = net_text net
 text_of (Check counts) = counts_text counts
 
 -- an outcome that ends a call before anything is written

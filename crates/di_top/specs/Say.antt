@@ -3,7 +3,7 @@ use Rattle.std.specs.Prelude.{ℕ, ◌-◌, List, [], ◌∷◌, ◌++◌, get_o
 use Rattle.cmd_text.specs.declared.file.Refusal.{Refusal}
 use Rattle.cmd_text.specs.declared.file.Refusal.TheVariants as text
 use Rattle.di_grammar.specs.declared.answer.Broken.{Broken}
-use Rattle.di_top.specs.Decimals.{worded, numbered_line}
+use Rattle.text_lines.specs.Lines.{worded, numbered_line}
 use Rattle.di_top.specs.declared.outcome.Outcome.{Outcome}
 use Rattle.di_top.specs.declared.outcome.Outcome.TheVariants.{Done, Refused, Usage, ReadFault, WriteFault, NoMemory, Limit}
 use Rattle.di_top.specs.declared.outcome.Why.{Why}

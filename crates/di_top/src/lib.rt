@@ -2,11 +2,9 @@
 #![tactic(auto)]
 
 mod command;
-mod decimal;
 mod form;
 mod laws;
 mod load;
-mod netlist;
 mod network;
 #[cfg(test)]
 mod network_tests;

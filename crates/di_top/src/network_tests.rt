@@ -1,12 +1,11 @@
 ghost use Rattle.std.specs.Prelude.{◌≡◌, length, IfOk};
 
 use crate::command::read_command;
-use crate::netlist::{Netlist, put_netlist};
-use crate::network::add_wires;
 use basic_kinds::Kind;
 use cmd_tree::Command;
 use di_io::MemSink;
 use net_core::{Net, NetBuilder, NodeSpec, closed, order};
+use net_text::write_net;
 use std::alloc::Global;
 use std::process::Abort;
 use std::test::Fail;
@@ -28,7 +27,7 @@ fn read(rt: &impl Abort, alloc: Global, text: &str, symbols: usize) -> Result<Co
 fn fork_first(rt: &impl Abort, alloc: Global) -> Result<Net, Fail> {
     let command = read(rt, alloc, "main := pref*[(a?||b?);(c!||d!)].", 4)?;
     let mut builder = NetBuilder::new(alloc, NodeSpec::Cmd(command))?;
-    add_wires(&mut builder, 5)?;
+    builder.wires(5)?;
     builder.node(NodeSpec::Kind(Kind::Fork(2)), vec![in alloc; 4, 2, 3]?)?;
     builder.node(NodeSpec::Kind(Kind::C(2)), vec![in alloc; 0, 1, 4]?)?;
     Ok(builder.finish(vec![in alloc; 0, 1, 2, 3]?)?)
@@ -43,8 +42,7 @@ fn orders_a_join_before_its_fork(rt: HostRuntime) -> Result<(), Fail> {
         panic!(rt; "no memory");
     };
     let mut sink = MemSink::new(alloc, 1000, Vec::new(alloc))?;
-    let netlist = Netlist::new(alloc, net)?;
-    assert_eq!(rt; put_netlist(&netlist, &mut sink), Ok(()));
+    assert_eq!(rt; write_net(&net, &mut sink), Ok(()));
     let text =
         "dinet 1\nspec pref*[(a?||b?);(c!||d!)]\nport a? 0\nport b? 1\nport c! 2\nport d! 3\nC 0 1 > 4\nFORK 4 > 2 3\nend\n";
     assert!(rt; sink.bytes() == text.as_bytes());
@@ -57,7 +55,7 @@ fn with_part(rt: &impl Abort, alloc: Global) -> Result<Net, Fail> {
     let outside = read(rt, alloc, "main := pref*[a?;b!].", 2)?;
     let part = read(rt, alloc, "main := pref*[a?;b!].", 2)?;
     let mut builder = NetBuilder::new(alloc, NodeSpec::Cmd(outside))?;
-    add_wires(&mut builder, 2)?;
+    builder.wires(2)?;
     builder.node(NodeSpec::Cmd(part), vec![in alloc; 0, 1]?)?;
     Ok(builder.finish(vec![in alloc; 0, 1]?)?)
 }

@@ -11,19 +11,20 @@ ghost use Rattle.di_top.specs.Plans.{text_of, IsStop};
 
 use crate::command::load_command;
 use crate::form::{Form, read_form};
-use crate::netlist::{Netlist, put_netlist};
 use crate::network::build_net;
 use crate::outcome::{Outcome, Why};
 use crate::report::{Counts, put_counts};
 use crate::words::Task;
 use cmd_tree::Command;
 use di_io::{PutFault, Shelf, Sink};
+use net_core::Net;
+use net_text::write_net;
 use std::alloc::{AllocError, Global};
 
 /// What is to be printed. It owns all memory that printing needs.
 #[derive(Drop)]
 pub enum Plan {
-    Compile(Netlist),
+    Compile(Net),
     Check(Counts),
 }
 
@@ -51,7 +52,7 @@ pub fn put_plan<S: Sink>(plan: &Plan, sink: &mut S) -> Result<(), PutFault>
     ensures front { OnErr result (GainsFront (S.written sink.old) (S.written sink.new) (text_of plan.now)) }
 {
     match plan {
-        Plan::Compile(netlist) => put_netlist(netlist, sink),
+        Plan::Compile(net) => write_net(net, sink),
         Plan::Check(counts) => put_counts(*counts, sink),
     }
 }
@@ -65,8 +66,8 @@ fn plan_compile<F: Shelf>(alloc: Global, file: &str, shelf: &mut F) -> Result<Pl
     ensures later { (other : List ℕ) → F.faults shelf.old other ≤ F.faults shelf.new other }
 {
     let command = load_command(alloc, file, shelf)?;
-    let netlist = compile(alloc, command)?;
-    Ok(Plan::Compile(netlist))
+    let net = compile(alloc, command)?;
+    Ok(Plan::Compile(net))
 }
 
 fn plan_check<F: Shelf>(alloc: Global, file: &str, shelf: &mut F) -> Result<Plan, Outcome>
@@ -81,9 +82,9 @@ fn plan_check<F: Shelf>(alloc: Global, file: &str, shelf: &mut F) -> Result<Plan
     Ok(Plan::Check(Counts::of(&command)))
 }
 
-/// The netlist of a command. It answers `NotThisForm` exactly where the command has another form.
-fn compile(alloc: Global, command: Command) -> Result<Netlist, Outcome>
-    ensures ok { IfOk result (λ netlist. CompiledTo command netlist.net) }
+/// The network of a command. It answers `NotThisForm` exactly where the command has another form.
+fn compile(alloc: Global, command: Command) -> Result<Net, Outcome>
+    ensures ok { IfOk result (λ net. CompiledTo command net) }
     ensures stop { IfErr result (λ stop. (stop ≡ Outcome.NoMemory)
         ⊎ ((Compiles command.procs → ⊥) × (stop ≡ Outcome.Refused Why.NotThisForm))) }
 {
@@ -93,10 +94,9 @@ fn compile(alloc: Global, command: Command) -> Result<Netlist, Outcome>
     }
 }
 
-fn compile_form(alloc: Global, form: Form) -> Result<Netlist, AllocError>
+fn compile_form(alloc: Global, form: Form) -> Result<Net, AllocError>
     requires { IsFormed form }
-    ensures { IfOk result (λ netlist. Compiled form netlist.net) }
+    ensures { IfOk result (λ net. Compiled form net) }
 {
-    let net = build_net(alloc, form)?;
-    Netlist::new(alloc, net)
+    build_net(alloc, form)
 }

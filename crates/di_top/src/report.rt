@@ -1,11 +1,15 @@
+//! What `check F` prints.
+#![tactic(auto, using(di_io::proofs::Prints::printing))]
+
 ghost use Rattle.std.specs.Prelude.{◌≡◌, ◌≤◌, OnOk, OnErr};
 ghost use Rattle.di_io.specs.Faults.{Rose};
 ghost use Rattle.di_io.specs.Written.{Gains, GainsFront};
+ghost use Rattle.di_io.specs.Printing.{prints};
 ghost use Rattle.di_top.specs.CheckForm.{counts_of, counts_text};
 
-use crate::decimal::put_numbered;
 use cmd_tree::{Command, places_in_all};
-use di_io::{PutFault, Sink};
+use di_io::{Printer, PutFault, Sink};
+use text_lines::print_numbered;
 
 /// How many processes, symbols and symbol places a command has.
 #[derive(Debug, Clone, Copy, PartialEq, Eq)]
@@ -28,14 +32,24 @@ impl Counts {
 }
 
 /// Puts the lines of an admitted command. It takes no memory. After an error a front of them was put.
+#[tactic(auto, using(di_io::proofs::Prints::front_at), unfolding(di_io::specs::Printing::prints))]
 pub fn put_counts<S: Sink>(counts: Counts, sink: &mut S) -> Result<(), PutFault>
     ensures later { S.faults sink.old ≤ S.faults sink.new }
     ensures ok { OnOk result (Gains (S.written sink.old) (S.written sink.new) (counts_text counts)) }
     ensures failed { OnErr result (Rose (S.faults sink.old) (S.faults sink.new)) }
     ensures front { OnErr result (GainsFront (S.written sink.old) (S.written sink.new) (counts_text counts)) }
 {
-    sink.put(b"admitted\n")?;
-    put_numbered(b"processes ", counts.processes, sink)?;
-    put_numbered(b"symbols ", counts.symbols, sink)?;
-    put_numbered(b"places ", counts.places, sink)
+    let mut printer = Printer::new(sink);
+    print_counts(counts, &mut printer);
+    let (result, _sink) = printer.finish();
+    result
+}
+
+fn print_counts<S: Sink>(counts: Counts, printer: &mut Printer<'_, S>)
+    ensures { printer.new ≡ prints printer.old (counts_text counts) }
+{
+    printer.print(b"admitted\n");
+    print_numbered(b"processes ", counts.processes, printer);
+    print_numbered(b"symbols ", counts.symbols, printer);
+    print_numbered(b"places ", counts.places, printer);
 }

@@ -8,3 +8,6 @@ pub mod Paths
 pub mod Linked
 pub mod Among
 pub mod Routes
+pub mod Rows
+pub mod Rules
+pub mod JoinFork

@@ -1,1 +1,3 @@
 pub mod Charts
+pub mod Implementing
+pub mod RoundsNets

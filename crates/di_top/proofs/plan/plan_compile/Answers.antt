@@ -16,15 +16,15 @@ returns-in_err-command-clause-stop g c =
     let Q : Outcome → Type 0 = λ x. x ≡ c.in_err-command.field-0.0 in
     if_err c.from_residual.result Q P (λ x e. let s : c.in_err-command.field-0.0 ≡ x = sym e in subst P s stops) c.from_residual.ensures.1
 
-pub returns-in_err-netlist-clause-stop : goal.returns-in_err-netlist-clause-stop
-returns-in_err-netlist-clause-stop g c =
+pub returns-in_err-net-clause-stop : goal.returns-in_err-net-clause-stop
+returns-in_err-net-clause-stop g c =
     let r = reading g.F.Shelf.content g.F.Shelf.faults c.args.shelf.now c.load_command.new.shelf in
-    let stops = compile_stops r c.args.file.now c.in_ok-command.command c.in_err-netlist.field-0.0 c.in_ok-command.ensures.ok c.in_err-netlist.ensures.stop in
+    let stops = compile_stops r c.args.file.now c.in_ok-command.command c.in_err-net.field-0.0 c.in_ok-command.ensures.ok c.in_err-net.ensures.stop in
     let P : Outcome → Type 0 = λ x. IsStop x × Gives (Some (CompileWide c.args.file.now)) r x in
-    let Q : Outcome → Type 0 = λ x. x ≡ c.in_err-netlist.field-0.0 in
-    if_err c.from_residual-in_err-netlist.result Q P (λ x e. let s : c.in_err-netlist.field-0.0 ≡ x = sym e in subst P s stops) c.from_residual-in_err-netlist.ensures.1
+    let Q : Outcome → Type 0 = λ x. x ≡ c.in_err-net.field-0.0 in
+    if_err c.from_residual-in_err-net.result Q P (λ x e. let s : c.in_err-net.field-0.0 ≡ x = sym e in subst P s stops) c.from_residual-in_err-net.ensures.1
 
 pub returns-clause-ok : goal.returns-clause-ok
 returns-clause-ok g c =
     let r = reading g.F.Shelf.content g.F.Shelf.faults c.args.shelf.now c.load_command.new.shelf in
-    compile_done r c.args.file.now c.in_ok-command.command c.in_ok-netlist.netlist.net c.in_ok-command.ensures.ok c.in_ok-netlist.ensures.ok
+    compile_done r c.args.file.now c.in_ok-command.command c.in_ok-net.net c.in_ok-command.ensures.ok c.in_ok-net.ensures.ok

@@ -1,0 +1,14 @@
+//! Laws of networks that are made from components, for any numbers of ports: each function here does nothing, and its contract is the law.
+ghost use Rattle.std.specs.Prelude.{◌↔◌, ◌≡◌, ℕ, ◌<◌, ◌^◌, List};
+ghost use Rattle.cmd_tree.specs.Rounds.{Rounds};
+ghost use Rattle.net_core.specs.declared.spec.NodeSpec.{NodeSpec};
+ghost use Rattle.net_core.specs.Specs.{IsFormed, May, outs_of, sides};
+ghost use Rattle.net_laws.specs.Implementing.{Implements};
+ghost use Rattle.net_laws.specs.RoundsNets.{rounds_net};
+
+/// Where a specification takes each of its n inputs once, then gives each of its m outputs once, and so on, a C and a FORK
+/// implement it. A C of one input and a FORK of one output are left out, and a WIRE stands for both.
+pub fn rounds_net_law()
+    ensures { (s : NodeSpec) (n m : ℕ) → 0 < n → 0 < m → n < 2 ^ 27 → m < 2 ^ 27 → IsFormed s → outs_of s ≡ sides n m
+        → ((t : List ℕ) → (May s t ↔ Rounds n m t)) → Implements (rounds_net s n m) s }
+{}

@@ -1,0 +1,21 @@
+//! The text of a network: a netlist.
+//!
+//! `write_net` puts the text of a network whose environment is a command: the command, a line for each
+//! symbol, a line for each component, and `end`. It takes no memory. `specs/NetText` has the format:
+//!
+//!     dinet 1
+//!     spec pref*[(a?||b?);(c!||d!)]
+//!     port a? 0
+//!     port b? 1
+//!     port c! 2
+//!     port d! 3
+//!     C 0 1 > 4
+//!     FORK 4 > 2 3
+//!     end
+#![tactic(auto)]
+
+mod component;
+mod net;
+mod ports;
+
+pub use net::write_net;
