@@ -8,7 +8,8 @@ use Rattle.net_core.specs.Networks.{IsClean, IsSpecified}
 use Rattle.net_core.specs.Renumbering.{sum_of_parts}
 use Rattle.substitute.specs.Splice.{spliced, Fitting}
 
--- Each part takes the place of its node, from node k on, and where there is no part the node stays. The node after a part
+-- Each part takes the place of its node, from node k on, and where there is no part the node stays. The
+-- node after a part
 -- stands behind the part's components.
 abbrev pub all_spliced : Circuit → ℕ → List (Option Circuit) → Circuit
 all_spliced c k [] = c
