@@ -1,7 +1,4 @@
-pub mod Sides
 pub mod FormPorts
-pub mod OneNet
-pub mod JoinNet
 pub mod FormNet
 pub mod FormShapes
 pub mod Compiling

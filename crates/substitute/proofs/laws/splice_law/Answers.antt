@@ -1,5 +1,5 @@
 use Rattle.substitute.proofs.SplicedNet.{spliced_fits, spliced_closed, spliced_clean, spliced_sound_for, spliced_correct}
-use Rattle.substitute.proofs.splice_law.Goals as goal
+use Rattle.substitute.proofs.laws.splice_law.Goals as goal
 
 pub returns-clause-fits : goal.returns-clause-fits
 returns-clause-fits x = λ c m a fit. spliced_fits c a m fit
