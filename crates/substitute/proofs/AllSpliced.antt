@@ -1,8 +1,7 @@
 -- What the one pass makes is the network of one splice after the other.
-use Rattle.std.proofs.Common.{◌≡◌, ℕ, suc, Bool, ◌+◌, ◌*◌, ◌<◌, ◌≤◌, List, [], ◌∷◌, ◌++◌, length, map, take, drop, Option, refl, sym, ap, ◌∙◌, subst, arith}
+use Rattle.std.proofs.Common.{◌≡◌, ℕ, Bool, ◌+◌, ◌<◌, List, [], ◌∷◌, ◌++◌, length, take, drop, Option, sym, ◌∙◌, subst, arith}
 use Rattle.std.specs.Prelude.{◌^◌, Result, Ok, Err, IfOk}
-use Rattle.std.specs.List.{AllByRecursion}
-use Rattle.net_core.specs.Wiring.{Node, Circuit, IsWired, IsNetwork, IsClosed}
+use Rattle.net_core.specs.Wiring.{Node, Circuit, IsNetwork, IsClosed}
 use Rattle.net_core.specs.declared.spec.NodeSpec.{NodeSpec}
 use Rattle.net_core.specs.Renumbering.{sum_of_parts}
 use Rattle.net_core.proofs.Sizes.{nodes_few}

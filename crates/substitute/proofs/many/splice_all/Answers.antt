@@ -1,6 +1,5 @@
-use Rattle.std.proofs.Common.{◌≡◌, ℕ, drop, sym, ◌∙◌, subst}
+use Rattle.std.proofs.Common.{◌≡◌, drop, subst}
 use Rattle.std.specs.Prelude.{IfOk}
-use Rattle.net_core.specs.declared.spec.NodeSpec.{NodeSpec}
 use Rattle.net_core.specs.Wiring.{Circuit, IsClosed}
 use Rattle.net_core.specs.Networks.{IsClean, SoundFor, Correct}
 use Rattle.net_core.specs.Renumbering.{sum_of_parts}
