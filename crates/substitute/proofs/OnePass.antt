@@ -10,7 +10,7 @@ use Rattle.net_core.specs.Wiring.{Node, Circuit, moved}
 use Rattle.net_core.specs.Walk.{ends_at}
 use Rattle.substitute.specs.Splice.{renumber_at, renumber, rank, is_inner, spliced}
 use Rattle.substitute.specs.Splices.{all_spliced, specs_after, wires_in, PassAfter, sum_after}
-use Rattle.substitute.specs.OnePass.{in_place, wires_with, all_in_place, wires_with_all}
+use Rattle.substitute.specs.Mirror.OnePass.{in_place, wires_with, all_in_place, wires_with_all}
 use Rattle.substitute.proofs.Tables.{rank_few}
 
 -- the circuit of the nodes so far, those that are left, and so many wires

@@ -12,7 +12,7 @@ use Rattle.net_core.proofs.Found.{Located, gives_located, takes_located, all_nod
 use Rattle.substitute.specs.Splice.{driver, receiver, output_port, input_port, is_inner, rank, renumber_at, renumber, spliced, Fitting, FitsAt}
 use Rattle.substitute.proofs.NewNumbers.{entering_number, leaving_number, inner_number}
 use Rattle.net_core.specs.Walk.{ends_at}
-use Rattle.substitute.specs.Renumbering.{written, filled, after_filled}
+use Rattle.substitute.specs.Mirror.Tables.{written, filled, after_filled}
 use Rattle.substitute.proofs.Fused.{inner_from}
 use Rattle.net_core.proofs.Sizes.{nodes_few}
 use Rattle.substitute.proofs.SplicedNet.{spliced_fits, spliced_closed}

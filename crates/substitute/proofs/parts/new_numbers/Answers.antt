@@ -2,7 +2,7 @@ use Rattle.std.proofs.Common.{◌≡◌, ℕ, List, length, None, ap, ◌∙◌,
 use Rattle.std.specs.Prelude.{IfOk}
 use Rattle.std.proofs.lemmas.List.FromFn.{length-map-range_with_len}
 use Rattle.net_core.specs.Wiring.{Circuit}
-use Rattle.substitute.specs.Renumbering.{written}
+use Rattle.substitute.specs.Mirror.Tables.{written}
 use Rattle.substitute.proofs.Tables.{numbers_are}
 use Rattle.substitute.proofs.parts.new_numbers.Goals as goal
 
