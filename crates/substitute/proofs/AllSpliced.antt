@@ -1,13 +1,12 @@
 -- What the one pass makes is the network of one splice after the other.
-use Rattle.std.proofs.Common.{◌≡◌, ℕ, suc, Bool, ◌+◌, ◌*◌, ◌<◌, ◌≤◌, List, [], ◌∷◌, ◌++◌, length, map, take, drop, Option, refl, sym, ap, ◌∙◌, subst, arith}
+use Rattle.std.proofs.Common.{◌≡◌, ℕ, Bool, ◌+◌, ◌<◌, List, [], ◌∷◌, ◌++◌, length, take, drop, Option, sym, ◌∙◌, subst, arith}
 use Rattle.std.specs.Prelude.{◌^◌, Result, Ok, Err, IfOk}
-use Rattle.std.specs.List.{AllByRecursion}
-use Rattle.net_core.specs.Wiring.{Node, Circuit, IsWired, IsNetwork, IsClosed}
+use Rattle.net_core.specs.Wiring.{Node, Circuit, IsNetwork, IsClosed}
 use Rattle.net_core.specs.declared.spec.NodeSpec.{NodeSpec}
 use Rattle.net_core.specs.Renumbering.{sum_of_parts}
 use Rattle.net_core.proofs.Sizes.{nodes_few}
 use Rattle.substitute.specs.Splices.{all_spliced, FitEach, wires_in, specs_in, specs_after, PassIn, PassAfter, sum_after}
-use Rattle.substitute.specs.OnePass.{all_in_place, wires_with_all}
+use Rattle.substitute.specs.Mirror.OnePass.{all_in_place, wires_with_all}
 use Rattle.substitute.proofs.OnePass.{one_pass, placed_specs, placed_pass, placed_sum, wires_few}
 use Rattle.substitute.proofs.Turns.{all_network, all_closed}
 
@@ -67,7 +66,7 @@ module _ (c : Circuit) (ps : List (Option Circuit)) (sized : length ps + 1 ≡ l
       whole_few few = omega (arith, nodes_few whole whole_network.wired whole_closed, wires_few c.wires ps)
 
 -- what holds of the network that is made holds of the one that the call gives
-pub given : {E : Type 0} (P : Circuit → Type 0) (d : Circuit) (r : Result Circuit E) → IfOk r (λ w. w ≡ d)
+pub result_has : {E : Type 0} (P : Circuit → Type 0) (d : Circuit) (r : Result Circuit E) → IfOk r (λ w. w ≡ d)
     → P d → IfOk r P
-given P d (Err x) e h = tt
-given P d (Ok w) e h = subst P (sym e) h
+result_has P d (Err x) e h = tt
+result_has P d (Ok w) e h = subst P (sym e) h

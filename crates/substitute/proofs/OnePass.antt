@@ -1,5 +1,5 @@
 -- One pass over the nodes makes the network of one splice after the other.
-use Rattle.std.proofs.Common.{◌≡◌, ℕ, zero, suc, Bool, IsTrue, ◌+◌, ◌-◌, ◌<◌, ◌≤◌, List, [], ◌∷◌, ◌++◌, length, map, take, drop, Option, None, Some, refl, sym, ap, ◌∙◌, subst, arith, append_assoc, append-nil, length-append, length-drop}
+use Rattle.std.proofs.Common.{◌≡◌, ℕ, suc, Bool, IsTrue, ◌+◌, ◌-◌, ◌≤◌, List, [], ◌∷◌, ◌++◌, length, map, take, drop, Option, None, Some, refl, sym, ap, ◌∙◌, arith, append_assoc, length-append, length-drop}
 use Rattle.std.specs.Prelude.{slice_get}
 use Rattle.std.specs.List.{AllByRecursion, sum_by}
 use Rattle.std.proofs.lemmas.List.{length-map}
@@ -9,8 +9,8 @@ use Rattle.net_core.specs.declared.spec.NodeSpec.{NodeSpec}
 use Rattle.net_core.specs.Wiring.{Node, Circuit, moved}
 use Rattle.net_core.specs.Walk.{ends_at}
 use Rattle.substitute.specs.Splice.{renumber_at, renumber, rank, is_inner, spliced}
-use Rattle.substitute.specs.Splices.{all_spliced, specs_in, specs_after, wires_in, PassAfter, sum_after}
-use Rattle.substitute.specs.OnePass.{in_place, wires_with, all_in_place, wires_with_all}
+use Rattle.substitute.specs.Splices.{all_spliced, specs_after, wires_in, PassAfter, sum_after}
+use Rattle.substitute.specs.Mirror.OnePass.{in_place, wires_with, all_in_place, wires_with_all}
 use Rattle.substitute.proofs.Tables.{rank_few}
 
 -- the circuit of the nodes so far, those that are left, and so many wires

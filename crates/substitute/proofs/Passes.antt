@@ -5,9 +5,9 @@ use Rattle.std.specs.Option.{IfSome}
 use Rattle.std.proofs.lemmas.List.{drop_all}
 use Rattle.net_core.specs.Wiring.{Node, Circuit}
 use Rattle.net_core.specs.Walk.{ends_at}
-use Rattle.substitute.specs.Splice.{Fitting, FitsAt, rank, is_inner}
+use Rattle.substitute.specs.Splice.{FitsAt, is_inner}
 use Rattle.substitute.specs.Splices.{FitEach, wires_in}
-use Rattle.substitute.specs.OnePass.{in_place, wires_with, all_in_place, wires_with_all}
+use Rattle.substitute.specs.Mirror.OnePass.{in_place, wires_with, all_in_place, wires_with_all}
 use Rattle.substitute.proofs.Tables.{fits_at, rank_few}
 
 -- the nodes f and n wires are there, and the parts from place i on are left

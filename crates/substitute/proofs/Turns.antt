@@ -1,9 +1,9 @@
 -- What fits a network at first fits at its turn, and what one splice keeps all keep.
-use Rattle.std.proofs.Common.{◌≡◌, ◌⊎◌, inl, inr, ℕ, zero, suc, ◌+◌, ◌-◌, ◌<◌, ◌≤◌, true, List, [], ◌∷◌, length, drop, Option, None, Some, refl, sym, ap, ◌∙◌, subst, arith}
+use Rattle.std.proofs.Common.{◌≡◌, ℕ, zero, suc, ◌+◌, ◌-◌, ◌<◌, true, List, [], ◌∷◌, length, drop, Option, None, Some, refl, sym, ap, ◌∙◌, subst, arith}
 use Rattle.std.specs.Prelude.{slice_get, ⊤}
 use Rattle.net_core.specs.declared.spec.NodeSpec.{NodeSpec}
 use Rattle.net_core.specs.Wiring.{Node, Circuit, IsNetwork, IsClosed}
-use Rattle.net_core.specs.Networks.{gives, takes, end_at, end_node, end_port, spec_of, IsThrough, IsClean, SoundFor, Correct}
+use Rattle.net_core.specs.Networks.{gives, takes, end_at, spec_of, IsClean, SoundFor, Correct}
 use Rattle.net_core.proofs.Found.{Located, gives_located, takes_located}
 use Rattle.substitute.specs.Splice.{driver, receiver, output_port, input_port, spliced, Fitting}
 use Rattle.substitute.specs.Splices.{all_spliced, FitEach, EachPart, Serves, ServeEach}

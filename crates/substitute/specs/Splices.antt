@@ -1,5 +1,5 @@
 -- Networks in the places of several nodes of another, one after the other.
-use Rattle.std.specs.Prelude.{◌≡◌, ℕ, suc, ◌+◌, ◌-◌, ◌<◌, Bool, IsTrue, List, [], ◌∷◌, ◌++◌, map, drop, length, ⊤, Option, None, Some}
+use Rattle.std.specs.Prelude.{ℕ, suc, ◌+◌, ◌-◌, Bool, IsTrue, List, [], ◌∷◌, ◌++◌, map, drop, length, ⊤, Option, None, Some}
 use Rattle.std.specs.Option.{IfSome}
 use Rattle.std.specs.List.{AllByRecursion}
 use Rattle.net_core.specs.declared.spec.NodeSpec.{NodeSpec}

@@ -8,7 +8,7 @@ ghost use Rattle.net_core.specs.Networks.{IsClean, SoundFor, Correct};
 ghost use Rattle.net_core.specs.Renumbering.{sum_of_parts};
 ghost use Rattle.substitute.specs.Splice.{FitsAt};
 ghost use Rattle.substitute.specs.Splices.{all_spliced, FitEach, wires_in, EachPart, specs_in, specs_after, PassIn, PassAfter, sum_after};
-ghost use Rattle.substitute.specs.OnePass.{in_place, wires_with, all_in_place, wires_with_all};
+ghost use Rattle.substitute.specs.Mirror.OnePass.{in_place, wires_with, all_in_place, wires_with_all};
 
 use crate::parts::{Parts, new_parts};
 use net_core::{Net, Node, copy_spec, network_law};

@@ -2,7 +2,7 @@ ghost use Rattle.std.specs.Prelude.{◌≡◌, ℕ, ◌+◌, ◌<◌, ◌≤◌,
 ghost use Rattle.std.specs.List.{AllByRecursion, range_with_len};
 ghost use Rattle.net_core.specs.Wiring.{Node, IsWired, count, moved};
 ghost use Rattle.substitute.specs.Refusals.{IsNone, IsLeast};
-ghost use Rattle.substitute.specs.Renumbering.{written, filled, after_filled};
+ghost use Rattle.substitute.specs.Mirror.Tables.{written, filled, after_filled};
 
 use net_core::{Node, moved_node};
 use std::alloc::{AllocError, Global};

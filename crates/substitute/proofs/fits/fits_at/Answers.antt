@@ -1,5 +1,5 @@
-use Rattle.std.proofs.Common.{◌≡◌, ℕ, ◌<◌, true, false, true≢false, IsTrue, sym, ◌∙◌}
-use Rattle.net_core.specs.Wiring.{IsClosed, count}
+use Rattle.std.proofs.Common.{true≢false, sym, ◌∙◌}
+use Rattle.net_core.specs.Wiring.{IsClosed}
 use Rattle.substitute.proofs.Looked.{twice_refused, looked, none_open}
 use Rattle.substitute.proofs.fits.fits_at.Goals as goal
 

@@ -1,6 +1,6 @@
-use Rattle.std.proofs.Common.{◌≡◌, ℕ, ◌<◌, IsTrue, true, inl, inr, length, get_or, refl, sym, ◌∙◌, subst, arith}
+use Rattle.std.proofs.Common.{◌<◌, inl, inr, length, get_or, sym, ◌∙◌, arith}
 use Rattle.net_core.proofs.Counting.{all_at}
-use Rattle.substitute.proofs.Stamps.{Stamped, stamps_begin, stamps_next}
+use Rattle.substitute.proofs.Stamps.{stamps_begin, stamps_next}
 use Rattle.substitute.proofs.fits.stamp_all.Goals as goal
 use Rattle.substitute.proofs.fits.stamp_all.Goals.{then-stamps-wire, else-stamps-wire}
 

@@ -1,6 +1,6 @@
 use Rattle.std.proofs.Common.{◌≡◌, ℕ, ◌+◌, List, [], ◌∷◌, ◌++◌, get_or, ap, sym, ◌∙◌, subst, arith}
 use Rattle.net_core.specs.Wiring.{Node, Circuit}
-use Rattle.substitute.specs.OnePass.{wires_with}
+use Rattle.substitute.specs.Mirror.OnePass.{wires_with}
 use Rattle.substitute.proofs.Passes.{Pass, pass_begins, pass_fits, pass_room, pass_next, pass_nodes, pass_wires}
 use Rattle.substitute.proofs.many.put_all.Goals as goal
 

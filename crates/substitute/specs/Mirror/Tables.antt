@@ -1,4 +1,4 @@
--- The new numbers of a network's wires as lists: what is written for the fused wires, and what the others get.
+-- Mirror of the tables of new numbers: what is written for the fused wires, and what the other wires get.
 use Rattle.std.specs.Prelude.{ℕ, ◌+◌, nat_eq, if◌then◌else◌, List, [], ◌∷◌, Option, None, Some}
 
 -- What stands at w after each number of the second list is written at its number in the first, where x stood before.
