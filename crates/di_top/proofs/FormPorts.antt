@@ -12,7 +12,12 @@ use Rattle.basic_kinds.specs.KindTraces.{again, all_then_all}
 use Rattle.net_core.specs.declared.spec.NodeSpec.TheVariants.{Cmd}
 use Rattle.net_core.specs.Specs.{gives_symbol, sides, outs_of}
 use Rattle.di_top.specs.Forms.{TakesThenGives}
-use Rattle.di_top.proofs.Sides.{range_split}
+use Rattle.net_laws.proofs.Rows.{range_both}
+
+range_split : (n m : ℕ) → range_with_len 0 (n + m) ≡ range_with_len 0 n ++ range_with_len n m
+range_split n m =
+    let e : 0 + n ≡ n = omega arith in
+    sym (range_both 0 n m) ∙ ap (λ (b : ℕ). range_with_len 0 n ++ range_with_len b m) e
 
 -- the marks of inputs from a on
 symbol_taken : (a k x : ℕ) (rest : List Mark) → a ≤ x → x < a + k → gives_symbol (map input (range_with_len a k) ++ rest) x ≡ false

@@ -1,11 +1,9 @@
-pub mod Sides
 pub mod FormPorts
-pub mod OneNet
-pub mod JoinNet
 pub mod FormNet
 pub mod FormShapes
 pub mod Compiling
 pub mod Endings
+pub mod FormAnswers
 pub mod Sourcing
 pub mod Stops
 pub mod CommandPorts

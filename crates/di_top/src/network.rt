@@ -1,7 +1,8 @@
 ghost use Rattle.std.specs.Prelude.{◌≡◌, ◌+◌, ◌<◌, ◌≤◌, ◌^◌, ◌∷◌, [], ◌++◌, length, IfOk, OnOk};
 ghost use Rattle.std.specs.List.{AllByRecursion, range_with_len};
 ghost use Rattle.net_core.specs.Wiring.{IsWired};
-ghost use Rattle.di_top.specs.FormNets as shape;
+ghost use Rattle.net_core.specs.declared.spec.NodeSpec.{NodeSpec};
+ghost use Rattle.net_laws.specs.RoundsNets as shape;
 ghost use Rattle.di_top.specs.FormNets.{form_net};
 ghost use Rattle.di_top.specs.Forms.{IsFormed};
 
@@ -31,25 +32,25 @@ pub fn build_net(alloc: Global, form: Form) -> Result<Net, AllocError>
 
 /// One component, whose ports are joined to those of the environment in order.
 fn one_net(alloc: Global, command: Command, kind: Kind, wires: u32) -> Result<Net, AllocError>
-    requires fit { AllByRecursion (IsWired wires) (shape.one_net command kind wires).nodes }
+    requires fit { AllByRecursion (IsWired wires) (shape.one_net (NodeSpec.Cmd command) kind wires).nodes }
     requires few { wires + 1 < 2 ^ 32 }
-    ensures { IfOk result (λ net. net ≡ shape.one_net command kind wires) }
+    ensures { IfOk result (λ net. net ≡ shape.one_net (NodeSpec.Cmd command) kind wires) }
 {
     let mut builder = NetBuilder::new(alloc, NodeSpec::Cmd(command))?;
-    add_wires(&mut builder, wires)?;
+    builder.wires(wires)?;
     builder.node(NodeSpec::Kind(kind), numbers(alloc, 0, wires)?)?;
     builder.finish(numbers(alloc, 0, wires)?)
 }
 
 /// A C whose output is the input of a FORK.
 fn join_net(alloc: Global, command: Command, inputs: u32, outputs: u32) -> Result<Net, AllocError>
-    requires fit { AllByRecursion (IsWired (inputs + outputs + 1)) (shape.join_net command inputs outputs).nodes }
+    requires fit { AllByRecursion (IsWired (inputs + outputs + 1)) (shape.join_fork_net (NodeSpec.Cmd command) inputs outputs).nodes }
     requires few { inputs + outputs + 2 < 2 ^ 32 }
-    ensures { IfOk result (λ net. net ≡ shape.join_net command inputs outputs) }
+    ensures { IfOk result (λ net. net ≡ shape.join_fork_net (NodeSpec.Cmd command) inputs outputs) }
 {
     let between = inputs + outputs;
     let mut builder = NetBuilder::new(alloc, NodeSpec::Cmd(command))?;
-    add_wires(&mut builder, between + 1)?;
+    builder.wires(between + 1)?;
     let mut join_ends = numbers(alloc, 0, inputs)?;
     join_ends.push(between)?;
     builder.node(NodeSpec::Kind(Kind::C(inputs)), join_ends)?;
@@ -57,16 +58,6 @@ fn join_net(alloc: Global, command: Command, inputs: u32, outputs: u32) -> Resul
     fork_ends.append(&mut numbers(alloc, inputs, outputs)?)?;
     builder.node(NodeSpec::Kind(Kind::Fork(outputs)), fork_ends)?;
     builder.finish(numbers(alloc, 0, between)?)
-}
-
-pub fn add_wires(builder: &mut NetBuilder, many: u32) -> Result<(), AllocError>
-    requires { builder.old.wires + many < 2 ^ 32 }
-    ensures { OnOk result (builder.new ≡ record builder.old { wires = builder.old.wires + many }) }
-{
-    for _wire in 0..many {
-        builder.wire()?;
-    }
-    Ok(())
 }
 
 /// So many numbers from one on.

@@ -1,7 +1,6 @@
 ghost use Rattle.std.specs.Prelude.{◌≡◌, length, IfOk};
 
 use crate::command::read_command;
-use crate::network::add_wires;
 use basic_kinds::Kind;
 use cmd_tree::Command;
 use di_io::MemSink;
@@ -28,7 +27,7 @@ fn read(rt: &impl Abort, alloc: Global, text: &str, symbols: usize) -> Result<Co
 fn fork_first(rt: &impl Abort, alloc: Global) -> Result<Net, Fail> {
     let command = read(rt, alloc, "main := pref*[(a?||b?);(c!||d!)].", 4)?;
     let mut builder = NetBuilder::new(alloc, NodeSpec::Cmd(command))?;
-    add_wires(&mut builder, 5)?;
+    builder.wires(5)?;
     builder.node(NodeSpec::Kind(Kind::Fork(2)), vec![in alloc; 4, 2, 3]?)?;
     builder.node(NodeSpec::Kind(Kind::C(2)), vec![in alloc; 0, 1, 4]?)?;
     Ok(builder.finish(vec![in alloc; 0, 1, 2, 3]?)?)
@@ -56,7 +55,7 @@ fn with_part(rt: &impl Abort, alloc: Global) -> Result<Net, Fail> {
     let outside = read(rt, alloc, "main := pref*[a?;b!].", 2)?;
     let part = read(rt, alloc, "main := pref*[a?;b!].", 2)?;
     let mut builder = NetBuilder::new(alloc, NodeSpec::Cmd(outside))?;
-    add_wires(&mut builder, 2)?;
+    builder.wires(2)?;
     builder.node(NodeSpec::Cmd(part), vec![in alloc; 0, 1]?)?;
     Ok(builder.finish(vec![in alloc; 0, 1]?)?)
 }

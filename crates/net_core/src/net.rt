@@ -260,6 +260,22 @@ impl Net {
         Ok(Net { nodes, wires, ends })
     }
 
+    /// The network of these nodes, with so many wires, where each wire has its two ends.
+    pub fn of_nodes(alloc: Global, nodes: Vec<Node>, wires: u32) -> Result<Net, AllocError>
+        requires some { 0 < length nodes.items }
+        requires few { length nodes.items < 2 ^ 32 }
+        requires wired { AllByRecursion (IsWired wires) nodes.items }
+        requires closed { IsClosed (record { nodes = nodes.items; wires = wires }) }
+        ensures { IfOk result (λ net. net ≡ record { nodes = nodes.items; wires = wires }) }
+    {
+        let one = Ends {
+            drivers: 1,
+            receivers: 1,
+        };
+        let ends = vec![in alloc; one; wires as usize]?;
+        Ok(Net { nodes, wires, ends })
+    }
+
     /// The closed network with these nodes in the place of its own, where each wire again has its two ends.
     pub(crate) fn with_nodes(self, nodes: Vec<Node>) -> Net
         requires closed { IsClosed self }

@@ -11,3 +11,5 @@ pub mod Routes
 pub mod Rows
 pub mod Rules
 pub mod JoinFork
+pub mod SideBySide
+pub mod ForkParts

@@ -272,18 +272,32 @@ module _ (N W : Type 0) (d : Web N W) (Kept : N → Type 0) (There : W → Type 
   line_first v a =
       let (there, keep, back) = first_is v a in
       let (among, at) = h.driven (first v) there keep in
-      let (k, p, low, in_ports, is, by) = port_named (first v) (d.driver (first v)) among at in
-      (k, p, low, in_ports, is, by, gives_port k p low in_ports (ap d.driver is ∙ sym by),
-      end_is k p low in_ports ∙ ap c.number is ∙ h.number_root (first v) there ∙ ap c.number back)
+      let (k, p, low, in_ports, is, by) = port_named (first v) (d.driver (first v)) among at in (
+        k,
+        p,
+        low,
+        in_ports,
+        is,
+        by,
+        gives_port k p low in_ports (ap d.driver is ∙ sym by),
+        end_is k p low in_ports ∙ ap c.number is ∙ h.number_root (first v) there ∙ ap c.number back,
+      )
 
   line_last : (v : W) → Among v lines
       → (k : ℕ) × (p : ℕ) × (k < size) × (p < length (ports k)) × (label k p ≡ last v) × (name k ≡ d.receiver (last v)) × (takes net k p ≡ true) × (end_at net k p ≡ c.number v)
   line_last v a =
       let (there, keep, back) = last_is v a in
       let (among, at) = h.received (last v) there keep in
-      let (k, p, low, in_ports, is, by) = port_named (last v) (d.receiver (last v)) among at in
-      (k, p, low, in_ports, is, by, takes_port k p low in_ports (ap d.receiver is ∙ sym by),
-      end_is k p low in_ports ∙ ap c.number is ∙ h.number_root (last v) there ∙ ap c.number back)
+      let (k, p, low, in_ports, is, by) = port_named (last v) (d.receiver (last v)) among at in (
+        k,
+        p,
+        low,
+        in_ports,
+        is,
+        by,
+        takes_port k p low in_ports (ap d.receiver is ∙ sym by),
+        end_is k p low in_ports ∙ ap c.number is ∙ h.number_root (last v) there ∙ ap c.number back,
+      )
 
   -- the line of a port that gives
   given_line : (k p : ℕ) → gives net k p ≡ true
@@ -305,24 +319,34 @@ module _ (N W : Type 0) (d : Web N W) (Kept : N → Type 0) (There : W → Type 
   gives_once : (u : ℕ) → u < c.many → Once (gives net) net u
   gives_once u inside =
       let (v, a, number) = line_at u inside in
-      let (k, p, low, in_ports, is, by, g, e) = line_first v a in
-      (k, p, g, e ∙ number, (λ m q i at.
-      let (too, also, from) = given m q i in
-      let (among, start, end) = given_line m q i in
-      let same : root (label m q) ≡ v = line_one (root (label m q)) v among a (sym end ∙ at ∙ sym number) in
-      let labels : label m q ≡ label k p = sym start ∙ ap first same ∙ sym is in
-      same_port k p m q low in_ports too also (sym from ∙ ap d.driver (labels ∙ is) ∙ sym by) labels))
+      let (k, p, low, in_ports, is, by, g, e) = line_first v a in (
+        k,
+        p,
+        g,
+        e ∙ number,
+        (λ m q i at.
+            let (too, also, from) = given m q i in
+            let (among, start, end) = given_line m q i in
+            let same : root (label m q) ≡ v = line_one (root (label m q)) v among a (sym end ∙ at ∙ sym number) in
+            let labels : label m q ≡ label k p = sym start ∙ ap first same ∙ sym is in
+            same_port k p m q low in_ports too also (sym from ∙ ap d.driver (labels ∙ is) ∙ sym by) labels),
+      )
 
   takes_once : (u : ℕ) → u < c.many → Once (takes net) net u
   takes_once u inside =
       let (v, a, number) = line_at u inside in
-      let (k, p, low, in_ports, is, by, g, e) = line_last v a in
-      (k, p, g, e ∙ number, (λ m q i at.
-      let (too, also, from) = taken m q i in
-      let (among, start, end) = taken_line m q i in
-      let same : root (label m q) ≡ v = line_one (root (label m q)) v among a (sym end ∙ at ∙ sym number) in
-      let labels : label m q ≡ label k p = sym start ∙ ap last same ∙ sym is in
-      same_port k p m q low in_ports too also (sym from ∙ ap d.receiver (labels ∙ is) ∙ sym by) labels))
+      let (k, p, low, in_ports, is, by, g, e) = line_last v a in (
+        k,
+        p,
+        g,
+        e ∙ number,
+        (λ m q i at.
+            let (too, also, from) = taken m q i in
+            let (among, start, end) = taken_line m q i in
+            let same : root (label m q) ≡ v = line_one (root (label m q)) v among a (sym end ∙ at ∙ sym number) in
+            let labels : label m q ≡ label k p = sym start ∙ ap last same ∙ sym is in
+            same_port k p m q low in_ports too also (sym from ∙ ap d.receiver (labels ∙ is) ∙ sym by) labels),
+      )
 
   pub routes_closed : IsClosed net
   routes_closed = closed_by_counts net wired (λ u low. (gives_once u low, takes_once u low))
@@ -372,10 +396,13 @@ module _ (N W : Type 0) (d : Web N W) (Kept : N → Type 0) (There : W → Type 
   -- the ports of a trace that is allowed are there
   in_range : (n : N) (b : List W) (t : List ℕ) → Follows (d.rule n) b (map (λ p. get_or (c.ports n) p nothing) t) → AllByRecursion (λ p. p < length (c.ports n)) t
   in_range n b [] f = tt
-  in_range n b (p ∷ t) f = (elim (cases_lt p (length (c.ports n))) [
-    | inl low ↦ low
-    | inr past ↦ absurd (h.never n b (subst (λ w. d.rule n b w) (get_or_past (c.ports n) p nothing past) f.0))
-  ], in_range n (b ++ get_or (c.ports n) p nothing ∷ []) t f.1)
+  in_range n b (p ∷ t) f = (
+    elim (cases_lt p (length (c.ports n))) [
+      | inl low ↦ low
+      | inr past ↦ absurd (h.never n b (subst (λ w. d.rule n b w) (get_or_past (c.ports n) p nothing past) f.0))
+    ],
+    in_range n (b ++ get_or (c.ports n) p nothing ∷ []) t f.1,
+  )
 
   linked : Linked N W d Kept (fabric net)
   linked = record {

@@ -1,7 +1,9 @@
 -- Wires and nodes in rows and blocks.
-use Rattle.std.proofs.Common.{◌≡◌, ℕ, zero, suc, ◌+◌, ◌<◌, ◌≤◌, Bool, true, false, List, [], ◌∷◌, ◌++◌, map, length, replicate, ◌⊎◌, inl, inr, refl, sym, ap, subst, ◌∙◌, arith}
+use Rattle.std.proofs.Common.{◌≡◌, ℕ, zero, suc, ◌+◌, ◌-◌, ◌*◌, ◌<◌, ◌≤◌, Bool, true, false, List, [], ◌∷◌, ◌++◌, map, length, get_or, replicate, ◌⊎◌, inl, inr, refl, sym, ap, subst, ◌∙◌, arith, length-append}
 use Rattle.std.specs.List.{AllByRecursion, range_with_len}
 use Rattle.std.proofs.lemmas.Bool.{cases_lt}
+use Rattle.std.proofs.lemmas.List.{map-append, get_or_append_left, get_or-append_right}
+use Rattle.std.proofs.lemmas.List.FromFn.{length-map-range_with_len, get_or-map-range_with_len}
 use Rattle.net_laws.proofs.Among.{Among, Distinct}
 use Rattle.net_laws.proofs.Routes.{Joined}
 
@@ -98,6 +100,83 @@ distinct_both (x ∷ xs) ys a b apart = (
   (λ h. elim (among_either x xs ys h) [ inl i ↦ a.0 i | inr i ↦ apart x (inl refl) i ]),
   distinct_both xs ys a.1 b (λ z i j. apart z (inr i) j),
 )
+
+-- ---- k rows of m, one after the other
+
+abbrev pub rows : {A : Type 0} → (ℕ → ℕ → A) → ℕ → ℕ → List A
+rows f zero m = []
+rows f (suc k) m = rows f k m ++ row (f k) m
+
+-- a place in the rows before the last
+pub block_low : (k m i j : ℕ) → i < k → j < m → i * m + j < k * m
+block_low zero m i j h l = absurd (omega arith)
+block_low (suc k) m i j h l = elim (cases_lt i k) [
+  | inl less ↦ omega (arith, block_low k m i j less l)
+  | inr last ↦ let e : i ≡ k = omega arith in omega (arith, ap (λ z. z * m) e)
+]
+
+pub block_of : (k m q : ℕ) → q < k * m → (i : ℕ) × (j : ℕ) × (i < k) × (j < m) × (q ≡ i * m + j)
+block_of zero m q h = absurd (omega arith)
+block_of (suc k) m q h = elim (cases_lt q (k * m)) [
+  | inl less ↦ let (i, j, low, in_row, e) = block_of k m q less in (i, j, omega arith, in_row, e)
+  | inr more ↦ (k, q - k * m, omega arith, omega arith, omega arith)
+]
+
+module _ {A : Type 0} (f : ℕ → ℕ → A) (m : ℕ) where
+  pub rows_long : (k : ℕ) → length (rows f k m) ≡ k * m
+  rows_long zero = omega arith
+  rows_long (suc k) = length-append (rows f k m) (row (f k) m) ∙ omega (arith, rows_long k, length-map-range_with_len (f k) 0 m)
+
+  pub among_rows : (k : ℕ) (x : A) → Among x (rows f k m) → (i : ℕ) × (j : ℕ) × (i < k) × (j < m) × (x ≡ f i j)
+  among_rows zero x h = absurd h
+  among_rows (suc k) x h = elim (among_either x (rows f k m) (row (f k) m) h) [
+    | inl a ↦ let (i, j, low, in_row, e) = among_rows k x a in (i, j, omega arith, in_row, e)
+    | inr b ↦ let (j, in_row, e) = among_row (f k) m x b in (k, j, omega arith, in_row, e)
+  ]
+
+  pub rows_among : (k i j : ℕ) → i < k → j < m → Among (f i j) (rows f k m)
+  rows_among zero i j h l = absurd (omega arith)
+  rows_among (suc k) i j h l = elim (cases_lt i k) [
+    | inl less ↦ among_left (f i j) (rows f k m) (row (f k) m) (rows_among k i j less l)
+    | inr last ↦
+        let e : k ≡ i = omega arith in
+        subst (λ z. Among (f z j) (rows f k m ++ row (f k) m)) e (among_right (f k j) (rows f k m) (row (f k) m) (row_among (f k) m j l))
+  ]
+
+  pub rows_all : (P : A → Type 0) (k : ℕ) → ((i j : ℕ) → i < k → j < m → P (f i j)) → AllByRecursion P (rows f k m)
+  rows_all P zero h = tt
+  rows_all P (suc k) h = all_both P (rows f k m) (row (f k) m) (rows_all P k (λ i j low l. h i j (omega arith) l)) (row_all P (f k) m (λ j l. h k j (omega arith) l))
+
+  pub distinct_rows : ((i j a b : ℕ) → f i j ≡ f a b → (i ≡ a) × (j ≡ b)) → (k : ℕ) → Distinct (rows f k m)
+  distinct_rows one zero = tt
+  distinct_rows one (suc k) =
+      distinct_both (rows f k m) (row (f k) m) (distinct_rows one k) (distinct_row (f k) (λ i j e. (one k i k j e).1) m)
+      (λ x a b.
+      let (i, j, low, in_row, e) = among_rows k x a in
+      let (l, in_last, g) = among_row (f k) m x b in
+      let same : i ≡ k = (one i j k l (sym e ∙ g)).0 in
+      absurd (omega arith))
+
+  pub number_rows : (number : A → ℕ) (b k : ℕ) → ((i j : ℕ) → i < k → j < m → number (f i j) ≡ b + (i * m + j)) → map number (rows f k m) ≡ range_with_len b (k * m)
+  number_rows number b zero h = ap (range_with_len b) (let z : 0 ≡ zero * m = omega arith in z)
+  number_rows number b (suc k) h =
+      map-append number (rows f k m) (row (f k) m)
+      ∙ ap (λ l. l ++ map number (row (f k) m)) (number_rows number b k (λ i j low l. h i j (omega arith) l))
+      ∙ ap (λ l. range_with_len b (k * m) ++ l) (number_row number (f k) (b + k * m) m (λ j l. omega (arith, h k j (omega arith) l)))
+      ∙ range_both b (k * m) m ∙ ap (range_with_len b) (let z : k * m + m ≡ suc k * m = omega arith in z)
+
+  pub rows_at : (d : A) (k i j : ℕ) → i < k → j < m → get_or (rows f k m) (i * m + j) d ≡ f i j
+  rows_at d zero i j h l = absurd (omega arith)
+  rows_at d (suc k) i j h l = elim (cases_lt i k) [
+    | inl less ↦
+        get_or_append_left (rows f k m) (row (f k) m) d (i * m + j) (omega (arith, rows_long k, block_low k m i j less l)) ∙ rows_at d k i j less l
+    | inr last ↦
+        let e : i ≡ k = omega arith in
+        let place : i * m + j - k * m ≡ j = omega (arith, ap (λ z. z * m) e) in
+        get_or-append_right (rows f k m) (row (f k) m) (k * m) (i * m + j) d (rows_long k) (omega (arith, ap (λ z. z * m) e))
+        ∙ ap (λ q. get_or (row (f k) m) q d) place
+        ∙ get_or-map-range_with_len (f k) 0 m j j d l (omega arith) ∙ ap (λ z. f z j) (sym e)
+  ]
 
 -- ---- ports of one direction
 

@@ -44,7 +44,7 @@ module _ {W : Type 0} (same : W → W → Bool) (decides : Decides same) (ports 
         let low : p < length ports = inside (counts u) p f.0 in (
           (agree (counts u) (tally same naught (map label u)) (agree_at u all) p low).0 f.0,
           subst (λ v. Follows (λ v w. R (tally same naught v) w) v (map label t)) (map-append label u (p ∷ []))
-          (there (u ++ p ∷ []) (all_both (λ p. p < length ports) u (p ∷ []) all (low, tt)) t f.1),
+              (there (u ++ p ∷ []) (all_both (λ p. p < length ports) u (p ∷ []) all (low, tt)) t f.1),
         )
 
     back : (u : List ℕ) → AllByRecursion (λ p. p < length ports) u → (t : List ℕ) → Follows (λ v w. R (tally same naught v) w) (map label u) (map label t)
@@ -57,7 +57,7 @@ module _ {W : Type 0} (same : W → W → Bool) (decides : Decides same) (ports 
         ] in (
           (agree (counts u) (tally same naught (map label u)) (agree_at u all) p low).1 f.0,
           back (u ++ p ∷ []) (all_both (λ p. p < length ports) u (p ∷ []) all (low, tt)) t
-          (subst (λ v. Follows (λ v w. R (tally same naught v) w) v (map label t)) (sym (map-append label u (p ∷ []))) f.1),
+              (subst (λ v. Follows (λ v w. R (tally same naught v) w) v (map label t)) (sym (map-append label u (p ∷ []))) f.1),
         )
 
     -- a node whose ports follow K is one whose wires follow R
@@ -125,10 +125,15 @@ module _ {W : Type 0} (same : W → W → Bool) (decides : Decides same) (ins ou
           )
 
       back : RoundsOn ins outs e (port p) → RoundsAt n m c p
-      back (inl (a, f)) = inl (is_in p (omega (arith, long)) a,
-        (λ j y. here ∙ all_at (λ o. e (port p) ≡ e o) nothing outs f j (omega arith) ∙ sym (agree_out c e h j y)))
-      back (inr (a, f)) = inr (is_out p (omega (arith, long)) a, omega (arith, long),
-        (λ i z. omega (arith, here, all_at (λ i. e (port p) < e i) nothing ins f i (omega arith), agree_in c e h i z)))
+      back (inl (a, f)) = inl (
+        is_in p (omega (arith, long)) a,
+        (λ j y. here ∙ all_at (λ o. e (port p) ≡ e o) nothing outs f j (omega arith) ∙ sym (agree_out c e h j y)),
+      )
+      back (inr (a, f)) = inr (
+        is_out p (omega (arith, long)) a,
+        omega (arith, long),
+        (λ i z. omega (arith, here, all_at (λ i. e (port p) < e i) nothing ins f i (omega arith), agree_in c e h i z)),
+      )
 
   rounds_inside : (c : ℕ → ℕ) (p : ℕ) → RoundsAt n m c p → p < length (ins ++ outs)
   rounds_inside c p (inl (x, f)) = omega (arith, long)

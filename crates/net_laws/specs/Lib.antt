@@ -1,3 +1,4 @@
 pub mod Charts
 pub mod Implementing
 pub mod RoundsNets
+pub mod ForksNets

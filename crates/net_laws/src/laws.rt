@@ -1,8 +1,9 @@
 //! Laws of networks that are made from components, for any numbers of ports: each function here does nothing, and its contract is the law.
-ghost use Rattle.std.specs.Prelude.{◌↔◌, ◌≡◌, ℕ, ◌<◌, ◌^◌, List};
+ghost use Rattle.std.specs.Prelude.{◌↔◌, ◌≡◌, ℕ, ◌*◌, ◌<◌, ◌≤◌, ◌^◌, List};
 ghost use Rattle.cmd_tree.specs.Rounds.{Rounds};
 ghost use Rattle.net_core.specs.declared.spec.NodeSpec.{NodeSpec};
 ghost use Rattle.net_core.specs.Specs.{IsFormed, May, outs_of, sides};
+ghost use Rattle.net_laws.specs.ForksNets.{Forks, forks_net};
 ghost use Rattle.net_laws.specs.Implementing.{Implements};
 ghost use Rattle.net_laws.specs.RoundsNets.{rounds_net};
 
@@ -11,4 +12,11 @@ ghost use Rattle.net_laws.specs.RoundsNets.{rounds_net};
 pub fn rounds_net_law()
     ensures { (s : NodeSpec) (n m : ℕ) → 0 < n → 0 < m → n < 2 ^ 27 → m < 2 ^ 27 → IsFormed s → outs_of s ≡ sides n m
         → ((t : List ℕ) → (May s t ↔ Rounds n m t)) → Implements (rounds_net s n m) s }
+{}
+
+/// Where a specification gives each of its k inputs on by m outputs of its own, whatever the others do, k FORKs side by side
+/// implement it.
+pub fn forks_net_law()
+    ensures { (s : NodeSpec) (k m : ℕ) → 2 ≤ m → m < 2 ^ 27 → IsFormed s → outs_of s ≡ sides k (k * m)
+        → ((t : List ℕ) → (May s t ↔ Forks k m t)) → Implements (forks_net s k m) s }
 {}

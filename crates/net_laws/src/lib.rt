@@ -2,5 +2,7 @@
 #![tactic(auto)]
 
 mod laws;
+mod side_by_side;
 
-pub use laws::rounds_net_law;
+pub use laws::{forks_net_law, rounds_net_law};
+pub use side_by_side::{forks, numbers};

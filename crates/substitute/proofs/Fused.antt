@@ -9,7 +9,9 @@ use Rattle.net_core.specs.Wiring.{Node, Circuit}
 use Rattle.net_core.specs.Networks.{directions_at, directions, gives, takes, end_at, may_of, spec_of}
 use Rattle.net_core.proofs.Ends.{side_of, outs_at, exchanged, own_directions}
 use Rattle.net_core.proofs.Found.{Located, first_below, any_below, some_below, gives_located, takes_located}
-use Rattle.substitute.specs.Splice.{driver, receiver, output, input, is_inner, rank, renumber, Fitting}
+use Rattle.substitute.specs.Splice.{driver, receiver, output_port, input_port, is_inner, rank, renumber, Fitting}
+use Rattle.net_core.specs.Walk.{ends_at}
+use Rattle.substitute.proofs.NewNumbers.{end_listed, entering_number, leaving_number, inner_number}
 use Rattle.substitute.proofs.Ranks.{rank_same}
 
 -- the wire of c that a wire of the result is
@@ -63,16 +65,16 @@ there_not c a m w h = elim (cases_Bool (list_any (λ x. nat_eq (renumber c a m x
 -- m's wire u comes from its environment.
 pub record Entering (c : Circuit) (a : ℕ) (m : Circuit) (u : ℕ) : Type 0 where
   pub from : driver m u ≡ 0
-  pub number : renumber c a m u ≡ end_at c a (output m u)
-  pub taken : takes c a (output m u) ≡ true
-  pub back : end_at m 0 (output m u) ≡ u
+  pub number : renumber c a m u ≡ end_at c a (output_port m u)
+  pub taken : takes c a (output_port m u) ≡ true
+  pub back : end_at m 0 (output_port m u) ≡ u
 
 -- It leads to its environment.
 pub record Leaving (c : Circuit) (a : ℕ) (m : Circuit) (u : ℕ) : Type 0 where
   pub goes : receiver m u ≡ 0
-  pub number : renumber c a m u ≡ end_at c a (input m u)
-  pub given : gives c a (input m u) ≡ true
-  pub back : end_at m 0 (input m u) ≡ u
+  pub number : renumber c a m u ≡ end_at c a (input_port m u)
+  pub given : gives c a (input_port m u) ≡ true
+  pub back : end_at m 0 (input_port m u) ≡ u
 
 -- It does neither.
 pub record Inner (c : Circuit) (a : ℕ) (m : Circuit) (u : ℕ) : Type 0 where
@@ -104,19 +106,19 @@ outside_directions : (o : Option Node) → directions_at 0 o ≡ map not (outs_a
 outside_directions None = refl
 outside_directions (Some x) = refl
 
-number_first : (c : Circuit) (a : ℕ) (m : Circuit) (u : ℕ) → driver m u ≡ 0 → renumber c a m u ≡ end_at c a (output m u)
+number_first : (c : Circuit) (a : ℕ) (m : Circuit) (u : ℕ) → driver m u ≡ 0 → renumber c a m u ≡ end_at c a (output_port m u)
 unfolding renumber
-number_first c a m u e = rw (eq-eqb (driver m u) 0 e) refl
+number_first c a m u e = entering_number (ends_at (slice_get c.nodes a)) c.wires m u e ∙ end_listed (slice_get c.nodes a) (output_port m u)
 
 number_second : (c : Circuit) (a : ℕ) (m : Circuit) (u : ℕ) → ◌≢◌ {A = ℕ} (driver m u) 0 → receiver m u ≡ 0
-    → renumber c a m u ≡ end_at c a (input m u)
+    → renumber c a m u ≡ end_at c a (input_port m u)
 unfolding renumber
-number_second c a m u h e = rw (ne_eqb (driver m u) 0 h, eq-eqb (receiver m u) 0 e) refl
+number_second c a m u h e = leaving_number (ends_at (slice_get c.nodes a)) c.wires m u h e ∙ end_listed (slice_get c.nodes a) (input_port m u)
 
 pub number_third : (c : Circuit) (a : ℕ) (m : Circuit) (u : ℕ) → ◌≢◌ {A = ℕ} (driver m u) 0 → ◌≢◌ {A = ℕ} (receiver m u) 0
     → renumber c a m u ≡ c.wires + rank (is_inner m) u
 unfolding renumber
-number_third c a m u h g = rw (ne_eqb (driver m u) 0 h, ne_eqb (receiver m u) 0 g) refl
+number_third c a m u h g = inner_number (ends_at (slice_get c.nodes a)) c.wires m u h g
 
 pub inner_from : (m : Circuit) (u : ℕ) → ◌≢◌ {A = ℕ} (driver m u) 0 → ◌≢◌ {A = ℕ} (receiver m u) 0 → is_inner m u ≡ true
 unfolding is_inner
@@ -153,16 +155,16 @@ module _ (c : Circuit) (a : ℕ) (m : Circuit) (fit : Fitting c a m) where
   entering u l e = record {
     from = e;
     number = number_first c a m u e;
-    taken = taken_there (output m u) ∙ ap (λ n. gives m n (output m u)) (sym e) ∙ part_gives_at.real u l;
-    back = ap (λ n. end_at m n (output m u)) (sym e) ∙ part_gives_at.back u l;
+    taken = taken_there (output_port m u) ∙ ap (λ n. gives m n (output_port m u)) (sym e) ∙ part_gives_at.real u l;
+    back = ap (λ n. end_at m n (output_port m u)) (sym e) ∙ part_gives_at.back u l;
   }
 
   leaving : (u : ℕ) → u < m.wires → ◌≢◌ {A = ℕ} (driver m u) 0 → receiver m u ≡ 0 → Leaving c a m u
   leaving u l h e = record {
     goes = e;
     number = number_second c a m u h e;
-    given = given_there (input m u) ∙ ap (λ n. takes m n (input m u)) (sym e) ∙ part_takes_at.real u l;
-    back = ap (λ n. end_at m n (input m u)) (sym e) ∙ part_takes_at.back u l;
+    given = given_there (input_port m u) ∙ ap (λ n. takes m n (input_port m u)) (sym e) ∙ part_takes_at.real u l;
+    back = ap (λ n. end_at m n (input_port m u)) (sym e) ∙ part_takes_at.back u l;
   }
 
   -- the three kinds of a wire of m
@@ -177,22 +179,22 @@ module _ (c : Circuit) (a : ℕ) (m : Circuit) (fit : Fitting c a m) where
 
   -- A wire that enters m leads to a in c, and one that leaves m comes from a.
   pub entering_to : (u : ℕ) → Entering c a m u → receiver c (renumber c a m u) ≡ a
-  entering_to u k = ap (receiver c) k.number ∙ net_takes_at.node_at a (output m u) k.taken
+  entering_to u k = ap (receiver c) k.number ∙ net_takes_at.node_at a (output_port m u) k.taken
 
-  pub entering_into : (u : ℕ) → Entering c a m u → input c (renumber c a m u) ≡ output m u
-  entering_into u k = ap (input c) k.number ∙ net_takes_at.port_at a (output m u) k.taken
+  pub entering_into : (u : ℕ) → Entering c a m u → input_port c (renumber c a m u) ≡ output_port m u
+  entering_into u k = ap (input_port c) k.number ∙ net_takes_at.port_at a (output_port m u) k.taken
 
   pub entering_known : (u : ℕ) → Entering c a m u → renumber c a m u < c.wires
-  entering_known u k = subst (λ x. x < c.wires) (sym k.number) (net_takes_at.known a (output m u) k.taken)
+  entering_known u k = subst (λ x. x < c.wires) (sym k.number) (net_takes_at.known a (output_port m u) k.taken)
 
   pub leaving_from : (u : ℕ) → Leaving c a m u → driver c (renumber c a m u) ≡ a
-  leaving_from u k = ap (driver c) k.number ∙ net_gives_at.node_at a (input m u) k.given
+  leaving_from u k = ap (driver c) k.number ∙ net_gives_at.node_at a (input_port m u) k.given
 
-  pub leaving_out : (u : ℕ) → Leaving c a m u → output c (renumber c a m u) ≡ input m u
-  leaving_out u k = ap (output c) k.number ∙ net_gives_at.port_at a (input m u) k.given
+  pub leaving_out : (u : ℕ) → Leaving c a m u → output_port c (renumber c a m u) ≡ input_port m u
+  leaving_out u k = ap (output_port c) k.number ∙ net_gives_at.port_at a (input_port m u) k.given
 
   pub leaving_known : (u : ℕ) → Leaving c a m u → renumber c a m u < c.wires
-  leaving_known u k = subst (λ x. x < c.wires) (sym k.number) (net_gives_at.known a (input m u) k.given)
+  leaving_known u k = subst (λ x. x < c.wires) (sym k.number) (net_gives_at.known a (input_port m u) k.given)
 
   pub inner_past : (u : ℕ) → Inner c a m u → c.wires ≤ renumber c a m u
   inner_past u k = subst (λ x. c.wires ≤ x) (sym k.number) (omega arith)
@@ -203,12 +205,12 @@ module _ (c : Circuit) (a : ℕ) (m : Circuit) (fit : Fitting c a m) where
   same_kind : (u v : ℕ) → Entering c a m u ⊎ (Leaving c a m u ⊎ Inner c a m u) → Entering c a m v ⊎ (Leaving c a m v ⊎ Inner c a m v)
       → renumber c a m u ≡ renumber c a m v → u ≡ v
   same_kind u v (inl k) (inl h) e = sym k.back
-      ∙ ap (end_at m 0) (sym (entering_into u k) ∙ ap (input c) e ∙ entering_into v h) ∙ h.back
+      ∙ ap (end_at m 0) (sym (entering_into u k) ∙ ap (input_port c) e ∙ entering_into v h) ∙ h.back
   same_kind u v (inl k) (inr (inl h)) e = absurd (crossed u v k h e)
   same_kind u v (inl k) (inr (inr h)) e = let x = entering_known u k in let y = inner_past v h in absurd (omega arith)
   same_kind u v (inr (inl k)) (inl h) e = absurd (crossed v u h k (sym e))
   same_kind u v (inr (inl k)) (inr (inl h)) e = sym k.back
-      ∙ ap (end_at m 0) (sym (leaving_out u k) ∙ ap (output c) e ∙ leaving_out v h) ∙ h.back
+      ∙ ap (end_at m 0) (sym (leaving_out u k) ∙ ap (output_port c) e ∙ leaving_out v h) ∙ h.back
   same_kind u v (inr (inl k)) (inr (inr h)) e = let x = leaving_known u k in let y = inner_past v h in absurd (omega arith)
   same_kind u v (inr (inr k)) (inl h) e = let x = entering_known v h in let y = inner_past u k in absurd (omega arith)
   same_kind u v (inr (inr k)) (inr (inl h)) e = let x = leaving_known v h in let y = inner_past u k in absurd (omega arith)

@@ -1,4 +1,5 @@
 pub mod Follows
+pub mod NewNumbers
 pub mod Fused
 pub mod JoinedExact
 pub mod JoinedSound
@@ -10,3 +11,10 @@ pub mod SplicedNet
 pub mod Numbering
 pub mod Ports
 pub mod Tables
+pub mod OnePass
+pub mod Turns
+pub mod Passes
+pub mod AllSpliced
+pub mod Stamps
+pub mod Looked
+pub mod Looks

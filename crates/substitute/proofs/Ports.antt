@@ -7,9 +7,10 @@ use Rattle.net_core.specs.Wiring.{Node, Circuit, IsWired, IsClosed, count}
 use Rattle.net_core.specs.Networks.{directions_at, directions, gives, takes, end_of, end_at}
 use Rattle.net_core.proofs.Counting.{count_nil, count_same, count_other}
 use Rattle.net_core.proofs.Found.{Located, gives_located, takes_located, one_side, all_nodes, same_ports}
-use Rattle.substitute.specs.Splice.{driver, receiver, output, input}
+use Rattle.substitute.specs.Splice.{driver, receiver, output_port, input_port}
 use Rattle.std.specs.Prelude.{Result, Ok, Err, IfOk, MatchOption}
-use Rattle.substitute.specs.Refusals.{IsNone, IsLeast, IsAround, ends_of}
+use Rattle.net_core.specs.Walk.{ends_at}
+use Rattle.substitute.specs.Refusals.{IsNone, IsLeast, IsAround}
 
 count_here : (w v : ℕ) (vs : List ℕ) → v ≡ w → count w (v ∷ vs) ≡ suc (count w vs)
 count_here w v vs e = subst (λ x. count w (x ∷ vs) ≡ suc (count w vs)) (sym e) (count_same w vs)
@@ -75,25 +76,25 @@ module _ (c : Circuit) (fit : AllByRecursion (IsWired c.wires) c.nodes) (closed 
   ]
 
   pub around_count : (w : ℕ) → w < c.wires → driver c w ≡ n → receiver c w ≡ n → 1 < count w x.ends
-  around_count w l d r = order (cases_lt_order (output c w) (input c w))
+  around_count w l d r = order (cases_lt_order (output_port c w) (input_port c w))
     where
-      out : gives c n (output c w) ≡ true
-      out = ap (λ m. gives c m (output c w)) (sym d) ∙ gives_at.real w l
+      out : gives c n (output_port c w) ≡ true
+      out = ap (λ m. gives c m (output_port c w)) (sym d) ∙ gives_at.real w l
 
-      in_ : takes c n (input c w) ≡ true
-      in_ = ap (λ m. takes c m (input c w)) (sym r) ∙ takes_at.real w l
+      in_ : takes c n (input_port c w) ≡ true
+      in_ = ap (λ m. takes c m (input_port c w)) (sym r) ∙ takes_at.real w l
 
-      at_out : get_or x.ends (output c w) 0 ≡ w
-      at_out = sym (at_port (output c w)) ∙ ap (λ m. end_at c m (output c w)) (sym d) ∙ gives_at.back w l
+      at_out : get_or x.ends (output_port c w) 0 ≡ w
+      at_out = sym (at_port (output_port c w)) ∙ ap (λ m. end_at c m (output_port c w)) (sym d) ∙ gives_at.back w l
 
-      at_in : get_or x.ends (input c w) 0 ≡ w
-      at_in = sym (at_port (input c w)) ∙ ap (λ m. end_at c m (input c w)) (sym r) ∙ takes_at.back w l
+      at_in : get_or x.ends (input_port c w) 0 ≡ w
+      at_in = sym (at_port (input_port c w)) ∙ ap (λ m. end_at c m (input_port c w)) (sym r) ∙ takes_at.back w l
 
-      out_in : output c w < length x.ends
-      out_in = let there = (gives_at.there n (output c w) out).1 in let many = many_ports in omega arith
+      out_in : output_port c w < length x.ends
+      out_in = let there = (gives_at.there n (output_port c w) out).1 in let many = many_ports in omega arith
 
-      in_in : input c w < length x.ends
-      in_in = let there = (takes_at.there n (input c w) in_).1 in let many = many_ports in omega arith
+      in_in : input_port c w < length x.ends
+      in_in = let there = (takes_at.there n (input_port c w) in_).1 in let many = many_ports in omega arith
 
       cases_lt_order : (p q : ℕ) → (p < q) ⊎ ((q < p) ⊎ (p ≡ q))
       cases_lt_order p q = elim (cases_lt p q) [
@@ -101,17 +102,17 @@ module _ (c : Circuit) (fit : AllByRecursion (IsWired c.wires) c.nodes) (closed 
         | inr g ↦ elim (cases_eq p q) [ inl e ↦ inr (inr e) | inr ne ↦ inr (inl (omega arith)) ]
       ]
 
-      order : (output c w < input c w) ⊎ ((input c w < output c w) ⊎ (output c w ≡ input c w)) → 1 < count w x.ends
-      order (inl h) = count_two w x.ends (output c w) (input c w) h in_in at_out at_in
-      order (inr (inl h)) = count_two w x.ends (input c w) (output c w) h out_in at_in at_out
-      order (inr (inr e)) = absurd (one_side c n (output c w) out (ap (takes c n) e ∙ in_))
+      order : (output_port c w < input_port c w) ⊎ ((input_port c w < output_port c w) ⊎ (output_port c w ≡ input_port c w)) → 1 < count w x.ends
+      order (inl h) = count_two w x.ends (output_port c w) (input_port c w) h in_in at_out at_in
+      order (inr (inl h)) = count_two w x.ends (input_port c w) (output_port c w) h out_in at_in at_out
+      order (inr (inr e)) = absurd (one_side c n (output_port c w) out (ap (takes c n) e ∙ in_))
 
   two_ends : (w p q : ℕ) → p < q → end_at c n p ≡ w → end_at c n q ≡ w → (gives c n p ≡ true) ⊎ (takes c n p ≡ true) → (gives c n q ≡ true) ⊎ (takes c n q ≡ true)
       → (driver c w ≡ n) × (receiver c w ≡ n)
-  two_ends w p q l e f (inl g) (inl h) = let same = sym (gives_at.port_at n p g) ∙ ap (output c) (e ∙ sym f) ∙ gives_at.port_at n q h in absurd (omega arith)
+  two_ends w p q l e f (inl g) (inl h) = let same = sym (gives_at.port_at n p g) ∙ ap (output_port c) (e ∙ sym f) ∙ gives_at.port_at n q h in absurd (omega arith)
   two_ends w p q l e f (inl g) (inr t) = (ap (driver c) (sym e) ∙ gives_at.node_at n p g, ap (receiver c) (sym f) ∙ takes_at.node_at n q t)
   two_ends w p q l e f (inr t) (inl g) = (ap (driver c) (sym f) ∙ gives_at.node_at n q g, ap (receiver c) (sym e) ∙ takes_at.node_at n p t)
-  two_ends w p q l e f (inr t) (inr u) = let same = sym (takes_at.port_at n p t) ∙ ap (input c) (e ∙ sym f) ∙ takes_at.port_at n q u in absurd (omega arith)
+  two_ends w p q l e f (inr t) (inr u) = let same = sym (takes_at.port_at n p t) ∙ ap (input_port c) (e ∙ sym f) ∙ takes_at.port_at n q u in absurd (omega arith)
 
   pub count_around : (w : ℕ) → 1 < count w x.ends → (driver c w ≡ n) × (receiver c w ≡ n)
   count_around w h =
@@ -119,7 +120,7 @@ module _ (c : Circuit) (fit : AllByRecursion (IsWired c.wires) c.nodes) (closed 
       two_ends w p q l (at_port p ∙ e) (at_port q ∙ f) (port_side p (omega arith)) (port_side q in_q)
 
 -- What is said of the wires that stand twice at a node's ports is said of those that go from it to it.
-pub around_found : (c : Circuit) → AllByRecursion (IsWired c.wires) c.nodes → IsClosed c → (n : ℕ) → n < length c.nodes → (ends : List ℕ) → ends ≡ ends_of (slice_get c.nodes n)
+pub around_found : (c : Circuit) → AllByRecursion (IsWired c.wires) c.nodes → IsClosed c → (n : ℕ) → n < length c.nodes → (ends : List ℕ) → ends ≡ ends_at (slice_get c.nodes n)
     → ((w : ℕ) → w < c.wires → 1 < count w ends → IsAround c n w) × ((w : ℕ) → w < c.wires → IsAround c n w → 1 < count w ends)
 around_found c fit closed n h ends e = at (slice_get c.nodes n) refl
   where
@@ -131,12 +132,12 @@ around_found c fit closed n h ends e = at (slice_get c.nodes n) refl
         past (x ∷ xs) zero h s = cc
         past (x ∷ xs) (suc n) h s = past xs n (omega arith) s
     at (Some x) s =
-        let same : ends ≡ x.ends = e ∙ ap ends_of s in (
+        let same : ends ≡ x.ends = e ∙ ap ends_at s in (
           λ w l more. count_around c fit closed n x s w (subst (λ es. 1 < count w es) same more),
           λ w l go. subst (λ es. 1 < count w es) (sym same) (around_count c fit closed n x s w l go.0 go.1),
         )
 
-pub around_answer : {E : Type 0} (c : Circuit) → AllByRecursion (IsWired c.wires) c.nodes → IsClosed c → (n : ℕ) → n < length c.nodes → (ends : List ℕ) → ends ≡ ends_of (slice_get c.nodes n)
+pub around_answer : {E : Type 0} (c : Circuit) → AllByRecursion (IsWired c.wires) c.nodes → IsClosed c → (n : ℕ) → n < length c.nodes → (ends : List ℕ) → ends ≡ ends_at (slice_get c.nodes n)
     → (r : Result (Option ℕ) E)
     → IfOk r (λ found. MatchOption found (IsNone (λ w. 1 < count w ends) c.wires) (λ w. IsLeast (λ w. 1 < count w ends) c.wires w))
     → IfOk r (λ found. MatchOption found (IsNone (IsAround c n) c.wires) (λ w. IsLeast (IsAround c n) c.wires w))

@@ -3,7 +3,7 @@ use Rattle.std.proofs.Common.{false, ◌≡◌, ◌≢◌, ◌⊎◌, inl, inr, 
 use Rattle.net_core.specs.Wiring.{Circuit}
 use Rattle.net_core.specs.Networks.{gives, takes, end_at, fabric}
 use Rattle.net_core.proofs.Found.{found_only, gives_there, takes_there}
-use Rattle.substitute.specs.Splice.{driver, receiver, output, input, renumber, spliced, Fitting}
+use Rattle.substitute.specs.Splice.{driver, receiver, output_port, input_port, renumber, spliced, Fitting}
 use Rattle.substitute.proofs.Joins.{Half, Joins}
 use Rattle.substitute.proofs.Places.{net_place, part_place, net_alone, part_alone, places_apart, net_zero, decode, spliced_length, net_gives, net_takes, net_end, part_gives, part_takes, part_end, net_may, part_may}
 use Rattle.substitute.proofs.Fused.{here, there, here_from, here_past, here_gives, there_gives, there_not, there_from, net_gives_at, net_takes_at, part_gives_at, part_takes_at, taken_there, kind, entering_to, leaving_from, leaving_known, inner_past, one_wire, same_traces, opposite_ends}
@@ -96,7 +96,7 @@ module _ (c : Circuit) (a : ℕ) (m : Circuit) (fit : Fitting c a m) where
   taken_net_once n p ne g k q t e = elim (taken_origin k q t) [
     | inl o ↦ (let same : end_at c o.node q ≡ end_at c n p = sym o.at ∙ e in (
       o.place ∙ ap (net_place c a m) (sym ((net_takes_at c a m fit).node_at o.node q o.side) ∙ ap (receiver c) same ∙ (net_takes_at c a m fit).node_at n p g),
-      sym ((net_takes_at c a m fit).port_at o.node q o.side) ∙ ap (input c) same ∙ (net_takes_at c a m fit).port_at n p g,
+      sym ((net_takes_at c a m fit).port_at o.node q o.side) ∙ ap (input_port c) same ∙ (net_takes_at c a m fit).port_at n p g,
     ))
     | inr o ↦ absurd (taken_clash n p o.node q ne g o.kept o.side (sym o.at ∙ e))
   ]
@@ -108,7 +108,7 @@ module _ (c : Circuit) (a : ℕ) (m : Circuit) (fit : Fitting c a m) where
     | inr o ↦ (let same : end_at m o.node q ≡ end_at m n p = one_wire c a m fit (end_at m o.node q) (end_at m n p)
         ((part_takes_at c a m fit).known o.node q o.side) ((part_takes_at c a m fit).known n p g) (sym o.at ∙ e) in (
           o.place ∙ ap (part_place c a m) (sym ((part_takes_at c a m fit).node_at o.node q o.side) ∙ ap (receiver m) same ∙ (part_takes_at c a m fit).node_at n p g),
-          sym ((part_takes_at c a m fit).port_at o.node q o.side) ∙ ap (input m) same ∙ (part_takes_at c a m fit).port_at n p g,
+          sym ((part_takes_at c a m fit).port_at o.node q o.side) ∙ ap (input_port m) same ∙ (part_takes_at c a m fit).port_at n p g,
         ))
   ]
 
@@ -117,7 +117,7 @@ module _ (c : Circuit) (a : ℕ) (m : Circuit) (fit : Fitting c a m) where
   given_net_once n p ne g k q t e = elim (given_origin k q t) [
     | inl o ↦ (let same : end_at c o.node q ≡ end_at c n p = sym o.at ∙ e in (
       o.place ∙ ap (net_place c a m) (sym ((net_gives_at c a m fit).node_at o.node q o.side) ∙ ap (driver c) same ∙ (net_gives_at c a m fit).node_at n p g),
-      sym ((net_gives_at c a m fit).port_at o.node q o.side) ∙ ap (output c) same ∙ (net_gives_at c a m fit).port_at n p g,
+      sym ((net_gives_at c a m fit).port_at o.node q o.side) ∙ ap (output_port c) same ∙ (net_gives_at c a m fit).port_at n p g,
     ))
     | inr o ↦ absurd (given_clash n p o.node q ne g o.kept o.side (sym o.at ∙ e))
   ]
@@ -129,28 +129,28 @@ module _ (c : Circuit) (a : ℕ) (m : Circuit) (fit : Fitting c a m) where
     | inr o ↦ (let same : end_at m o.node q ≡ end_at m n p = one_wire c a m fit (end_at m o.node q) (end_at m n p)
         ((part_gives_at c a m fit).known o.node q o.side) ((part_gives_at c a m fit).known n p g) (sym o.at ∙ e) in (
           o.place ∙ ap (part_place c a m) (sym ((part_gives_at c a m fit).node_at o.node q o.side) ∙ ap (driver m) same ∙ (part_gives_at c a m fit).node_at n p g),
-          sym ((part_gives_at c a m fit).port_at o.node q o.side) ∙ ap (output m) same ∙ (part_gives_at c a m fit).port_at n p g,
+          sym ((part_gives_at c a m fit).port_at o.node q o.side) ∙ ap (output_port m) same ∙ (part_gives_at c a m fit).port_at n p g,
         ))
   ]
 
   -- where a wire leads in the result
   pub net_to : (v : ℕ) → v < c.wires → receiver c v ≢ a
-      → (receiver (spliced c a m) v ≡ net_place c a m (receiver c v)) × (input (spliced c a m) v ≡ input c v)
+      → (receiver (spliced c a m) v ≡ net_place c a m (receiver c v)) × (input_port (spliced c a m) v ≡ input_port c v)
   net_to v l ne =
       let t = (net_takes_at c a m fit).real v l in
       let e = (net_takes_at c a m fit).back v l in
-      found_only (takes (spliced c a m)) (spliced c a m) (takes_there (spliced c a m)) v (net_place c a m (receiver c v)) (input c v)
-      (net_takes c a m fit (receiver c v) (input c v) ne ∙ t) (net_end c a m fit (receiver c v) (input c v) ne ∙ e)
-      (λ k q h g. taken_net_once (receiver c v) (input c v) ne t k q h (g ∙ sym e))
+      found_only (takes (spliced c a m)) (spliced c a m) (takes_there (spliced c a m)) v (net_place c a m (receiver c v)) (input_port c v)
+      (net_takes c a m fit (receiver c v) (input_port c v) ne ∙ t) (net_end c a m fit (receiver c v) (input_port c v) ne ∙ e)
+      (λ k q h g. taken_net_once (receiver c v) (input_port c v) ne t k q h (g ∙ sym e))
 
   pub part_to : (u : ℕ) → u < m.wires → ◌≢◌ {A = ℕ} (receiver m u) 0
-      → (receiver (spliced c a m) (renumber c a m u) ≡ part_place c a m (receiver m u)) × (input (spliced c a m) (renumber c a m u) ≡ input m u)
+      → (receiver (spliced c a m) (renumber c a m u) ≡ part_place c a m (receiver m u)) × (input_port (spliced c a m) (renumber c a m u) ≡ input_port m u)
   part_to u l h =
       let t = (part_takes_at c a m fit).real u l in
       let e = ap (renumber c a m) ((part_takes_at c a m fit).back u l) in
-      found_only (takes (spliced c a m)) (spliced c a m) (takes_there (spliced c a m)) (renumber c a m u) (part_place c a m (receiver m u)) (input m u)
-      (part_takes c a m fit (receiver m u) (input m u) h ∙ t) (part_end_taken (receiver m u) (input m u) h t ∙ e)
-      (λ k q x g. taken_part_once (receiver m u) (input m u) h t k q x (g ∙ sym e))
+      found_only (takes (spliced c a m)) (spliced c a m) (takes_there (spliced c a m)) (renumber c a m u) (part_place c a m (receiver m u)) (input_port m u)
+      (part_takes c a m fit (receiver m u) (input_port m u) h ∙ t) (part_end_taken (receiver m u) (input_port m u) h t ∙ e)
+      (λ k q x g. taken_part_once (receiver m u) (input_port m u) h t k q x (g ∙ sym e))
 
   -- a wire that c gives or takes at a kept node, as a wire of m
   given_not_there : (n p u : ℕ) → n ≢ a → gives c n p ≡ true → receiver c (end_at c n p) ≢ a → u < m.wires → renumber c a m u ≡ end_at c n p → ⊥
@@ -162,16 +162,16 @@ module _ (c : Circuit) (a : ℕ) (m : Circuit) (fit : Fitting c a m) where
 
   -- a wire of c to a goes on in m
   pub goes_on : (v : ℕ) → v < c.wires → receiver c v ≡ a
-      → (gives m 0 (input c v) ≡ true) × (renumber c a m (end_at m 0 (input c v)) ≡ v) × (driver m (end_at m 0 (input c v)) ≡ 0)
+      → (gives m 0 (input_port c v) ≡ true) × (renumber c a m (end_at m 0 (input_port c v)) ≡ v) × (driver m (end_at m 0 (input_port c v)) ≡ 0)
   goes_on v l e =
-      let taken : takes c a (input c v) ≡ true = ap (λ n. takes c n (input c v)) (sym e) ∙ (net_takes_at c a m fit).real v l in
-      let given : gives m 0 (input c v) ≡ true = sym (taken_there c a m fit (input c v)) ∙ taken in
-      let from : driver m (end_at m 0 (input c v)) ≡ 0 = (part_gives_at c a m fit).node_at 0 (input c v) given in
-      let port : output m (end_at m 0 (input c v)) ≡ input c v = (part_gives_at c a m fit).port_at 0 (input c v) given in (
+      let taken : takes c a (input_port c v) ≡ true = ap (λ n. takes c n (input_port c v)) (sym e) ∙ (net_takes_at c a m fit).real v l in
+      let given : gives m 0 (input_port c v) ≡ true = sym (taken_there c a m fit (input_port c v)) ∙ taken in
+      let from : driver m (end_at m 0 (input_port c v)) ≡ 0 = (part_gives_at c a m fit).node_at 0 (input_port c v) given in
+      let port : output_port m (end_at m 0 (input_port c v)) ≡ input_port c v = (part_gives_at c a m fit).port_at 0 (input_port c v) given in (
         given,
-        elim (kind c a m fit (end_at m 0 (input c v)) ((part_gives_at c a m fit).known 0 (input c v) given)) [
-          | inl x ↦ x.number ∙ ap (end_at c a) port ∙ ap (λ n. end_at c n (input c v)) (sym e) ∙ (net_takes_at c a m fit).back v l
-          | inr (inl x) ↦ absurd (fit.not_through (end_at m 0 (input c v)) ((part_gives_at c a m fit).known 0 (input c v) given) (from, x.goes))
+        elim (kind c a m fit (end_at m 0 (input_port c v)) ((part_gives_at c a m fit).known 0 (input_port c v) given)) [
+          | inl x ↦ x.number ∙ ap (end_at c a) port ∙ ap (λ n. end_at c n (input_port c v)) (sym e) ∙ (net_takes_at c a m fit).back v l
+          | inr (inl x) ↦ absurd (fit.not_through (end_at m 0 (input_port c v)) ((part_gives_at c a m fit).known 0 (input_port c v) given) (from, x.goes))
           | inr (inr x) ↦ absurd (x.from from)
         ],
         from,
@@ -179,7 +179,7 @@ module _ (c : Circuit) (a : ℕ) (m : Circuit) (fit : Fitting c a m) where
 
   -- a wire of m to its environment goes on in c
   pub goes_out : (u : ℕ) → u < m.wires → receiver m u ≡ 0
-      → (gives c a (input m u) ≡ true) × (renumber c a m u ≡ end_at c a (input m u)) × (renumber c a m u < c.wires)
+      → (gives c a (input_port m u) ≡ true) × (renumber c a m u ≡ end_at c a (input_port m u)) × (renumber c a m u < c.wires)
   goes_out u l e = elim (kind c a m fit u l) [
     | inl x ↦ absurd (fit.not_through u l (x.from, e))
     | inr (inl x) ↦ (x.given, x.number, leaving_known c a m fit u x)
@@ -196,12 +196,12 @@ module _ (c : Circuit) (a : ℕ) (m : Circuit) (fit : Fitting c a m) where
         ∙ there_not c a m (end_at c n p) (λ u l e. given_not_there n p u ne g h l e);
     one = λ w x v e f. (here_gives c w v e).0 ∙ sym (here_gives c x v f).0;
     to = λ w v e ne. ap (receiver (spliced c a m)) (here_gives c w v e).0 ∙ (net_to v (here_gives c w v e).1 ne).0;
-    into = λ w v e ne. ap (input (spliced c a m)) (here_gives c w v e).0 ∙ (net_to v (here_gives c w v e).1 ne).1;
+    into = λ w v e ne. ap (input_port (spliced c a m)) (here_gives c w v e).0 ∙ (net_to v (here_gives c w v e).1 ne).1;
     port = λ w v e at. (goes_on v (here_gives c w v e).1 at).0;
     on = λ w v e at. let (same, l) = here_gives c w v e in let (g, back, from) = goes_on v l at in
-        there_from c a m fit w (end_at m 0 (input c v)) ((part_gives_at c a m fit).known 0 (input c v) g) (back ∙ sym same);
+        there_from c a m fit w (end_at m 0 (input_port c v)) ((part_gives_at c a m fit).known 0 (input_port c v) g) (back ∙ sym same);
     past = λ w v e at h. let (same, l) = here_gives c w v e in let (g, back, from) = goes_on v l at in
-        fit.not_through (end_at m 0 (input c v)) ((part_gives_at c a m fit).known 0 (input c v) g) (from, h);
+        fit.not_through (end_at m 0 (input_port c v)) ((part_gives_at c a m fit).known 0 (input_port c v) g) (from, h);
   }
 
   right_half : Half (fabric m) 0 (fabric c) a (fabric (spliced c a m)) (part_place c a m) (there c a m) (here c)
@@ -214,12 +214,12 @@ module _ (c : Circuit) (a : ℕ) (m : Circuit) (fit : Fitting c a m) where
     own = λ n p h g ne. ap (here c) (part_end_given n p h g) ∙ here_past c (renumber c a m (end_at m n p)) (past_all n p h g ne);
     one = λ w x v e f. sym (there_gives c a m w v e).1 ∙ (there_gives c a m x v f).1;
     to = λ w v e h. ap (receiver (spliced c a m)) (sym (there_gives c a m w v e).1) ∙ (part_to v (there_gives c a m w v e).0 h).0;
-    into = λ w v e h. ap (input (spliced c a m)) (sym (there_gives c a m w v e).1) ∙ (part_to v (there_gives c a m w v e).0 h).1;
+    into = λ w v e h. ap (input_port (spliced c a m)) (sym (there_gives c a m w v e).1) ∙ (part_to v (there_gives c a m w v e).0 h).1;
     port = λ w v e at. (goes_out v (there_gives c a m w v e).0 at).0;
     on = λ w v e at. let (l, same) = there_gives c a m w v e in let (g, number, known) = goes_out v l at in
         ap (here c) (sym same) ∙ here_from c (renumber c a m v) known ∙ ap Some number;
     past = λ w v e at h. let (l, same) = there_gives c a m w v e in let (g, number, known) = goes_out v l at in
-        fit.not_self (end_at c a (input m v)) ((net_gives_at c a m fit).known a (input m v) g) ((net_gives_at c a m fit).node_at a (input m v) g) h;
+        fit.not_self (end_at c a (input_port m v)) ((net_gives_at c a m fit).known a (input_port m v) g) ((net_gives_at c a m fit).node_at a (input_port m v) g) h;
   }
     where
       past_all : (n p : ℕ) → ◌≢◌ {A = ℕ} n 0 → gives m n p ≡ true → ◌≢◌ {A = ℕ} (receiver m (end_at m n p)) 0

@@ -12,7 +12,7 @@ use Rattle.net_core.specs.declared.spec.NodeSpec.{NodeSpec}
 use Rattle.net_core.proofs.Moved.{all_from, all_moved, node_at}
 use Rattle.net_core.proofs.Ends.{closed_by_counts}
 use Rattle.net_core.proofs.Found.{found_only, gives_there, takes_there, all_nodes}
-use Rattle.substitute.specs.Splice.{driver, receiver, output, input, is_inner, rank, renumber, spliced, Fitting}
+use Rattle.substitute.specs.Splice.{driver, receiver, output_port, input_port, is_inner, rank, renumber, spliced, Fitting}
 use Rattle.substitute.proofs.Ranks.{rank_below, rank_onto}
 use Rattle.substitute.proofs.Places.{net_zero, net_place, part_place, net_alone, part_alone, places_apart, decode, spliced_length, net_node, part_node, net_gives, net_takes, net_end, part_gives, part_takes}
 use Rattle.substitute.proofs.Fused.{number_third, net_gives_at, net_takes_at, part_gives_at, part_takes_at, given_there, kind, entering_known, leaving_known, one_wire}
@@ -116,32 +116,32 @@ module _ (c : Circuit) (a : ℕ) (m : Circuit) (fit : Fitting c a m) where
     where
       from_part : w < c.wires → driver c w ≡ a → AtPart c a m driver w
       from_part h e =
-          let given : gives c a (output c w) ≡ true = ap (λ n. gives c n (output c w)) (sym e) ∙ (net_gives_at c a m fit).real w h in
-          let taken : takes m 0 (output c w) ≡ true = sym (given_there c a m fit (output c w)) ∙ given in
-          let goes : receiver m (end_at m 0 (output c w)) ≡ 0 = (part_takes_at c a m fit).node_at 0 (output c w) taken in
-          let port : input m (end_at m 0 (output c w)) ≡ output c w = (part_takes_at c a m fit).port_at 0 (output c w) taken in
-          let below = (part_takes_at c a m fit).known 0 (output c w) taken in
+          let given : gives c a (output_port c w) ≡ true = ap (λ n. gives c n (output_port c w)) (sym e) ∙ (net_gives_at c a m fit).real w h in
+          let taken : takes m 0 (output_port c w) ≡ true = sym (given_there c a m fit (output_port c w)) ∙ given in
+          let goes : receiver m (end_at m 0 (output_port c w)) ≡ 0 = (part_takes_at c a m fit).node_at 0 (output_port c w) taken in
+          let port : input_port m (end_at m 0 (output_port c w)) ≡ output_port c w = (part_takes_at c a m fit).port_at 0 (output_port c w) taken in
+          let below = (part_takes_at c a m fit).known 0 (output_port c w) taken in
           record {
-            wire = end_at m 0 (output c w);
+            wire = end_at m 0 (output_port c w);
             below = below;
-            number = elim (kind c a m fit (end_at m 0 (output c w)) below) [
-              | inl x ↦ absurd (fit.not_through (end_at m 0 (output c w)) below (x.from, goes))
-              | inr (inl x) ↦ x.number ∙ ap (end_at c a) port ∙ ap (λ n. end_at c n (output c w)) (sym e) ∙ (net_gives_at c a m fit).back w h
+            number = elim (kind c a m fit (end_at m 0 (output_port c w)) below) [
+              | inl x ↦ absurd (fit.not_through (end_at m 0 (output_port c w)) below (x.from, goes))
+              | inr (inl x) ↦ x.number ∙ ap (end_at c a) port ∙ ap (λ n. end_at c n (output_port c w)) (sym e) ∙ (net_gives_at c a m fit).back w h
               | inr (inr x) ↦ absurd (x.goes goes)
             ];
-            kept = λ from. fit.not_through (end_at m 0 (output c w)) below (from, goes);
+            kept = λ from. fit.not_through (end_at m 0 (output_port c w)) below (from, goes);
           }
 
   taken_by : (w : ℕ) → w < (spliced c a m).wires → AtNet c a receiver w ⊎ AtPart c a m receiver w
   taken_by w l = elim (cases_lt w c.wires) [
     | inl h ↦ elim (cases_eq (receiver c w) a) [
       | inl e ↦ (let (g, at, from) = goes_on c a m fit w h e in
-          let below = (part_gives_at c a m fit).known 0 (input c w) g in
+          let below = (part_gives_at c a m fit).known 0 (input_port c w) g in
           inr (record {
-            wire = end_at m 0 (input c w);
+            wire = end_at m 0 (input_port c w);
             below = below;
             number = at;
-            kept = λ goes. fit.not_through (end_at m 0 (input c w)) below (from, goes);
+            kept = λ goes. fit.not_through (end_at m 0 (input_port c w)) below (from, goes);
           }))
       | inr ne ↦ inl (record { known = h; kept = ne })
     ]
@@ -153,19 +153,19 @@ module _ (c : Circuit) (a : ℕ) (m : Circuit) (fit : Fitting c a m) where
       let g = (net_gives_at c a m fit).real w x.known in
       let e = (net_gives_at c a m fit).back w x.known in (
         net_place c a m (driver c w),
-        output c w,
-        net_gives c a m fit (driver c w) (output c w) x.kept ∙ g,
-        net_end c a m fit (driver c w) (output c w) x.kept ∙ e,
-        (λ k q h f. given_net_once c a m fit (driver c w) (output c w) x.kept g k q h (f ∙ sym e)),
+        output_port c w,
+        net_gives c a m fit (driver c w) (output_port c w) x.kept ∙ g,
+        net_end c a m fit (driver c w) (output_port c w) x.kept ∙ e,
+        (λ k q h f. given_net_once c a m fit (driver c w) (output_port c w) x.kept g k q h (f ∙ sym e)),
       )
   given_once w (inr x) =
       let g = (part_gives_at c a m fit).real x.wire x.below in
       let e = ap (renumber c a m) ((part_gives_at c a m fit).back x.wire x.below) ∙ x.number in (
         part_place c a m (driver m x.wire),
-        output m x.wire,
-        part_gives c a m fit (driver m x.wire) (output m x.wire) x.kept ∙ g,
-        part_end_given c a m fit (driver m x.wire) (output m x.wire) x.kept g ∙ e,
-        (λ k q h f. given_part_once c a m fit (driver m x.wire) (output m x.wire) x.kept g k q h (f ∙ sym e)),
+        output_port m x.wire,
+        part_gives c a m fit (driver m x.wire) (output_port m x.wire) x.kept ∙ g,
+        part_end_given c a m fit (driver m x.wire) (output_port m x.wire) x.kept g ∙ e,
+        (λ k q h f. given_part_once c a m fit (driver m x.wire) (output_port m x.wire) x.kept g k q h (f ∙ sym e)),
       )
 
   taken_once : (w : ℕ) → AtNet c a receiver w ⊎ AtPart c a m receiver w → Once (takes (spliced c a m)) (spliced c a m) w
@@ -173,19 +173,19 @@ module _ (c : Circuit) (a : ℕ) (m : Circuit) (fit : Fitting c a m) where
       let g = (net_takes_at c a m fit).real w x.known in
       let e = (net_takes_at c a m fit).back w x.known in (
         net_place c a m (receiver c w),
-        input c w,
-        net_takes c a m fit (receiver c w) (input c w) x.kept ∙ g,
-        net_end c a m fit (receiver c w) (input c w) x.kept ∙ e,
-        (λ k q h f. taken_net_once c a m fit (receiver c w) (input c w) x.kept g k q h (f ∙ sym e)),
+        input_port c w,
+        net_takes c a m fit (receiver c w) (input_port c w) x.kept ∙ g,
+        net_end c a m fit (receiver c w) (input_port c w) x.kept ∙ e,
+        (λ k q h f. taken_net_once c a m fit (receiver c w) (input_port c w) x.kept g k q h (f ∙ sym e)),
       )
   taken_once w (inr x) =
       let g = (part_takes_at c a m fit).real x.wire x.below in
       let e = ap (renumber c a m) ((part_takes_at c a m fit).back x.wire x.below) ∙ x.number in (
         part_place c a m (receiver m x.wire),
-        input m x.wire,
-        part_takes c a m fit (receiver m x.wire) (input m x.wire) x.kept ∙ g,
-        part_end_taken c a m fit (receiver m x.wire) (input m x.wire) x.kept g ∙ e,
-        (λ k q h f. taken_part_once c a m fit (receiver m x.wire) (input m x.wire) x.kept g k q h (f ∙ sym e)),
+        input_port m x.wire,
+        part_takes c a m fit (receiver m x.wire) (input_port m x.wire) x.kept ∙ g,
+        part_end_taken c a m fit (receiver m x.wire) (input_port m x.wire) x.kept g ∙ e,
+        (λ k q h f. taken_part_once c a m fit (receiver m x.wire) (input_port m x.wire) x.kept g k q h (f ∙ sym e)),
       )
 
   pub spliced_closed : IsClosed (spliced c a m)
@@ -226,8 +226,11 @@ module _ (c : Circuit) (a : ℕ) (m : Circuit) (fit : Fitting c a m) where
   pub spliced_network : IsNetwork c → IsNetwork (spliced c a m)
   spliced_network network =
       let (x, e) = node_at c.nodes 0 network.some in record {
-        some = omega (arith, slice_get_within (spliced c a m).nodes 0 x
-            (ap (slice_get (spliced c a m).nodes) (sym (net_zero c a m fit)) ∙ net_node c a m fit 0 component_other ∙ e));
+        some = omega (
+          arith,
+          slice_get_within (spliced c a m).nodes 0 x
+              (ap (slice_get (spliced c a m).nodes) (sym (net_zero c a m fit)) ∙ net_node c a m fit 0 component_other ∙ e),
+        );
         wired = spliced_fits;
       }
 

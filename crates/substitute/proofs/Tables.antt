@@ -1,18 +1,19 @@
 -- The table of new numbers is that of the spliced network.
-use Rattle.std.proofs.Common.{◌≡◌, ◌⊎◌, inl, inr, ℕ, zero, suc, ◌+◌, ◌<◌, ◌≤◌, Bool, true, false, not, List, [], ◌∷◌, ◌++◌, length, map, take, drop, get_or, Option, None, Some, refl, sym, ap, ◌∙◌, subst, arith, nat_eq, eq-eqb, ne_eqb, if◌then◌else◌}
+use Rattle.std.proofs.Common.{◌≡◌, ◌≢◌, ◌⊎◌, inl, inr, ℕ, zero, suc, ◌+◌, ◌<◌, ◌≤◌, Bool, true, false, not, List, [], ◌∷◌, ◌++◌, length, map, take, drop, get_or, Option, None, Some, refl, sym, ap, ◌∙◌, subst, arith, nat_eq, eq-eqb, ne_eqb, if◌then◌else◌}
 use Rattle.std.specs.Prelude.{slice_get, Result, Ok, Err, IfOk, ◌^◌}
 use Rattle.std.specs.List.{AllByRecursion, range_with_len}
 use Rattle.std.proofs.lemmas.Bool.{cases_eq, cases_lt, cases_Bool, false≢true, and_parts}
 use Rattle.std.proofs.lemmas.Option.{same_Some}
 use Rattle.std.proofs.lemmas.List.FromFn.{get_or-map-range_with_len}
 use Rattle.net_core.specs.Specs.{outs_of}
-use Rattle.net_core.specs.Wiring.{Node, Circuit, IsWired, count, moved, replaced}
+use Rattle.net_core.specs.Wiring.{Node, Circuit, IsWired, IsNetwork, count, moved, replaced}
 use Rattle.net_core.specs.Networks.{directions_at, directions, gives, takes, end_of, end_at, spec_of}
-use Rattle.net_core.proofs.Found.{all_nodes, same_ports, gives_there, takes_there}
-use Rattle.substitute.specs.Splice.{driver, receiver, output, input, is_inner, rank, renumber, spliced, Fitting}
-use Rattle.substitute.specs.Refusals.{ends_of}
-use Rattle.substitute.specs.Renumbering.{written, filled, after_filled}
-use Rattle.substitute.proofs.Fused.{kind, Entering, Leaving, Inner, taken_there, given_there}
+use Rattle.net_core.proofs.Found.{Located, gives_located, takes_located, all_nodes, same_ports, gives_there, takes_there}
+use Rattle.substitute.specs.Splice.{driver, receiver, output_port, input_port, is_inner, rank, renumber_at, renumber, spliced, Fitting, FitsAt}
+use Rattle.substitute.proofs.NewNumbers.{entering_number, leaving_number, inner_number}
+use Rattle.net_core.specs.Walk.{ends_at}
+use Rattle.substitute.specs.Mirror.Tables.{written, filled, after_filled}
+use Rattle.substitute.proofs.Fused.{inner_from}
 use Rattle.net_core.proofs.Sizes.{nodes_few}
 use Rattle.substitute.proofs.SplicedNet.{spliced_fits, spliced_closed}
 use Rattle.substitute.proofs.Ports.{port_ends, count_two, count_around}
@@ -97,32 +98,35 @@ pub all_dropped : (P : Node → Type 0) (xs : List Node) → AllByRecursion P xs
 all_dropped P [] all = tt
 all_dropped P (x ∷ xs) all = all.1
 
-module _ (c : Circuit) (a : ℕ) (m : Circuit) (fit : Fitting c a m) (x y : Node) (here : slice_get c.nodes a ≡ Some x) (there : slice_get m.nodes 0 ≡ Some y) where
-  same_ends : length x.ends ≡ length y.ends
-  same_ends =
-      let first = all_nodes (IsWired c.wires) c.nodes a x fit.fit_net here in
-      let second = all_nodes (IsWired m.wires) m.nodes 0 y fit.fit_part there in
-      let specs : x.spec ≡ y.spec = same_Some x.spec y.spec (sym (ap spec_of here) ∙ fit.same ∙ ap spec_of there) in
-      first.sized ∙ ap (λ s. length (outs_of s)) specs ∙ sym second.sized
+module _ (ends : List ℕ) (first : ℕ) (m : Circuit) (fit : FitsAt ends m) (y : Node) (there : slice_get m.nodes 0 ≡ Some y) where
+  same_ends : length ends ≡ length y.ends
+  same_ends = fit.sized ∙ ap (λ o. length (ends_at o)) there
+
+  gives_at : Located (gives m) m
+  gives_at = gives_located m fit.network.wired fit.closed
+
+  takes_at : Located (takes m) m
+  takes_at = takes_located m fit.network.wired fit.closed
 
   alone : (u p q : ℕ) → u < m.wires → p < length y.ends → q < length y.ends → get_or y.ends p 0 ≡ u → get_or y.ends q 0 ≡ u → q ≡ p
   alone u p q l in_p in_q at_p at_q = elim (cases_eq q p) [
     | inl e ↦ e
     | inr ne ↦ absurd (elim (cases_lt p q) [
-      | inl h ↦ fit.not_through u l (count_around m fit.fit_part fit.closed_part 0 y there u (count_two u y.ends p q h in_q at_p at_q))
-      | inr h ↦ fit.not_through u l (count_around m fit.fit_part fit.closed_part 0 y there u (count_two u y.ends q p (omega arith) in_p at_q at_p))
+      | inl h ↦ fit.not_through u l (count_around m fit.network.wired fit.closed 0 y there u (count_two u y.ends p q h in_q at_p at_q))
+      | inr h ↦ fit.not_through u l (count_around m fit.network.wired fit.closed 0 y there u (count_two u y.ends q p (omega arith) in_p at_q at_p))
     ])
   ]
 
-  from_port : (u p : ℕ) → u < m.wires → end_at m 0 p ≡ u → renumber c a m u ≡ end_at c a p → p < length y.ends → written y.ends x.ends u None ≡ Some (renumber c a m u)
+  from_port : (u p : ℕ) → u < m.wires → end_at m 0 p ≡ u → renumber_at ends first m u ≡ get_or ends p 0 → p < length y.ends
+      → written y.ends ends u None ≡ Some (renumber_at ends first m u)
   from_port u p l at number in_p =
       let at' : get_or y.ends p 0 ≡ u = ap (λ o. end_of o p) (sym there) ∙ at in
-      written_at y.ends x.ends u None p same_ends in_p at' (λ q in_q at_q. alone u p q l in_p in_q at' at_q)
-      ∙ ap Some (ap (λ o. end_of o p) (sym here) ∙ sym number)
+      written_at y.ends ends u None p same_ends in_p at' (λ q in_q at_q. alone u p q l in_p in_q at' at_q)
+      ∙ ap Some (sym number)
 
   port_in : (u p : ℕ) → u < m.wires → (gives m 0 p ≡ true) ⊎ (takes m 0 p ≡ true) → p < length y.ends
   port_in u p l side =
-      let fits = all_nodes (IsWired m.wires) m.nodes 0 y fit.fit_part there in
+      let fits = all_nodes (IsWired m.wires) m.nodes 0 y fit.network.wired there in
       let many : length (directions m 0) ≡ length y.ends = ap (λ o. length (directions_at 0 o)) there ∙ same_ports 0 y ∙ sym fits.sized in
       elim side [
         | inl g ↦ (let at = (gives_there m 0 p g).1 in omega arith)
@@ -136,67 +140,107 @@ module _ (c : Circuit) (a : ℕ) (m : Circuit) (fit : Fitting c a m) (x y : Node
   not_inner u (inr e) h = let parts = and_parts (not (nat_eq (driver m u) 0)) (not (nat_eq (receiver m u) 0)) h in
       false≢true (sym (ap not (eq-eqb (receiver m u) 0 e)) ∙ parts.1)
 
-  filled_at : (u : ℕ) → u < m.wires → Entering c a m u ⊎ (Leaving c a m u ⊎ Inner c a m u)
-      → Filled c.wires (is_inner m) (λ w. written y.ends x.ends w None) (renumber c a m) u
-  filled_at u l (inl k) = record {
-    fresh = λ h. absurd (not_inner u (inl k.from) h);
-    kept = λ h. from_port u (output m u) l k.back k.number (port_in u (output m u) l (inl (sym (taken_there c a m fit (output m u)) ∙ k.taken)));
-  }
-  filled_at u l (inr (inl k)) = record {
-    fresh = λ h. absurd (not_inner u (inr k.goes) h);
-    kept = λ h. from_port u (input m u) l k.back k.number (port_in u (input m u) l (inr (sym (given_there c a m fit (input m u)) ∙ k.given)));
-  }
-  filled_at u l (inr (inr k)) = record {
+  -- a wire that comes from the environment, one that leads to it, and one that does neither
+  entering_filled : (u : ℕ) → u < m.wires → driver m u ≡ 0 → Filled first (is_inner m) (λ w. written y.ends ends w None) (renumber_at ends first m) u
+  entering_filled u l e =
+      let p = output_port m u in
+      let gives_p : gives m 0 p ≡ true = ap (λ n. gives m n p) (sym e) ∙ gives_at.real u l in
+      let at_p : end_at m 0 p ≡ u = ap (λ n. end_at m n p) (sym e) ∙ gives_at.back u l in
+      record {
+        fresh = λ h. absurd (not_inner u (inl e) h);
+        kept = λ h. from_port u p l at_p (entering_number ends first m u e) (port_in u p l (inl gives_p));
+      }
+
+  leaving_filled : (u : ℕ) → u < m.wires → ◌≢◌ {A = ℕ} (driver m u) 0 → receiver m u ≡ 0
+      → Filled first (is_inner m) (λ w. written y.ends ends w None) (renumber_at ends first m) u
+  leaving_filled u l ne e =
+      let p = input_port m u in
+      let takes_p : takes m 0 p ≡ true = ap (λ n. takes m n p) (sym e) ∙ takes_at.real u l in
+      let at_p : end_at m 0 p ≡ u = ap (λ n. end_at m n p) (sym e) ∙ takes_at.back u l in
+      record {
+        fresh = λ h. absurd (not_inner u (inr e) h);
+        kept = λ h. from_port u p l at_p (leaving_number ends first m u ne e) (port_in u p l (inr takes_p));
+      }
+
+  inner_filled : (u : ℕ) → u < m.wires → ◌≢◌ {A = ℕ} (driver m u) 0 → ◌≢◌ {A = ℕ} (receiver m u) 0
+      → Filled first (is_inner m) (λ w. written y.ends ends w None) (renumber_at ends first m) u
+  inner_filled u l from goes = record {
     fresh = λ h. (
-      written_none y.ends x.ends u None same_ends (λ p in_p at. elim (port_ends m fit.fit_part fit.closed_part 0 y there p in_p) [
-        | inl e ↦ k.from (ap (driver m) (sym at) ∙ e)
-        | inr e ↦ k.goes (ap (receiver m) (sym at) ∙ e)
+      written_none y.ends ends u None same_ends (λ p in_p at. elim (port_ends m fit.network.wired fit.closed 0 y there p in_p) [
+        | inl e ↦ from (ap (driver m) (sym at) ∙ e)
+        | inr e ↦ goes (ap (receiver m) (sym at) ∙ e)
       ]),
-      k.number,
+      inner_number ends first m u from goes,
     );
-    kept = λ h. absurd (false≢true (sym h ∙ k.inner));
+    kept = λ h. absurd (false≢true (sym h ∙ inner_from m u from goes));
   }
 
-  both_are : (filled (map (λ w. written y.ends x.ends w None) (range_with_len 0 m.wires)) c.wires ≡ map (renumber c a m) (range_with_len 0 m.wires))
-      × (after_filled (map (λ w. written y.ends x.ends w None) (range_with_len 0 m.wires)) c.wires ≡ c.wires + rank (is_inner m) m.wires)
+  filled_at : (u : ℕ) → u < m.wires → Filled first (is_inner m) (λ w. written y.ends ends w None) (renumber_at ends first m) u
+  filled_at u l = elim (cases_eq (driver m u) 0) [
+    | inl e ↦ entering_filled u l e
+    | inr h ↦ elim (cases_eq (receiver m u) 0) [ inl e ↦ leaving_filled u l h e | inr g ↦ inner_filled u l h g ]
+  ]
+
+  both_are : (filled (map (λ w. written y.ends ends w None) (range_with_len 0 m.wires)) first ≡ map (renumber_at ends first m) (range_with_len 0 m.wires))
+      × (after_filled (map (λ w. written y.ends ends w None) (range_with_len 0 m.wires)) first ≡ first + rank (is_inner m) m.wires)
   both_are =
-      let start : c.wires ≡ c.wires + rank (is_inner m) 0 = rank_none c.wires (is_inner m) in
-      let (table, count) = filled_is c.wires (is_inner m) (λ w. written y.ends x.ends w None) (renumber c a m) 0 m.wires c.wires start
-      (λ u h l. let lt : u < m.wires = omega arith in filled_at u lt (kind c a m fit u lt)) in
-      (table, count ∙ ap (λ n. c.wires + rank (is_inner m) n) (let z : 0 + m.wires ≡ m.wires = omega arith in z))
+      let start : first ≡ first + rank (is_inner m) 0 = rank_none first (is_inner m) in
+      let (table, count) = filled_is first (is_inner m) (λ w. written y.ends ends w None) (renumber_at ends first m) 0 m.wires first start
+      (λ u h l. filled_at u (let lt : u < m.wires = omega arith in lt)) in
+      (table, count ∙ ap (λ n. first + rank (is_inner m) n) (let z : 0 + m.wires ≡ m.wires = omega arith in z))
 
 -- The table and the number of wires that the code makes of the ends at both nodes.
-pub numbers_are : (c : Circuit) (a : ℕ) (m : Circuit) → Fitting c a m → (inner outer : List ℕ) → inner ≡ ends_of (slice_get m.nodes 0) → outer ≡ ends_of (slice_get c.nodes a)
-    → (filled (map (λ w. written inner outer w None) (range_with_len 0 m.wires)) c.wires ≡ map (renumber c a m) (range_with_len 0 m.wires))
-    × (after_filled (map (λ w. written inner outer w None) (range_with_len 0 m.wires)) c.wires ≡ c.wires + rank (is_inner m) m.wires)
-numbers_are c a m fit inner outer e f =
-    let (y, there) = node_at m.nodes 0 fit.some in
-    let (x, here) = node_at c.nodes a fit.inside in
-    let ye : inner ≡ y.ends = e ∙ ap ends_of there in
-    let xe : outer ≡ x.ends = f ∙ ap ends_of here in
-    rw (ye, xe) (both_are c a m fit x y here there)
+pub numbers_are : (ends : List ℕ) (first : ℕ) (m : Circuit) → FitsAt ends m → (inner : List ℕ) → inner ≡ ends_at (slice_get m.nodes 0)
+    → (n : ℕ) → n ≡ m.wires → (fused : List (Option ℕ)) → fused ≡ map (λ w. written inner ends w None) (range_with_len 0 n)
+    → (filled fused first ≡ map (renumber_at ends first m) (range_with_len 0 m.wires))
+    × (after_filled fused first ≡ first + rank (is_inner m) m.wires)
+numbers_are ends first m fit inner e n count fused made =
+    let (y, there) = node_at m.nodes 0 fit.network.some in
+    let ye : inner ≡ y.ends = e ∙ ap ends_at there in
+    let all : fused ≡ map (λ w. written y.ends ends w None) (range_with_len 0 m.wires) =
+    made ∙ (λ i. map (λ w. written (ye i) ends w None) (range_with_len 0 (count i))) in
+    rw all (both_are ends first m fit y there)
 
-pub same_length : (c : Circuit) (a : ℕ) (m : Circuit) → Fitting c a m → (inner outer : List ℕ) → inner ≡ ends_of (slice_get m.nodes 0) → outer ≡ ends_of (slice_get c.nodes a)
-    → length outer ≡ length inner
-same_length c a m fit inner outer e f =
-    let (y, there) = node_at m.nodes 0 fit.some in
-    let (x, here) = node_at c.nodes a fit.inside in
-    let ye : inner ≡ y.ends = e ∙ ap ends_of there in
-    let xe : outer ≡ x.ends = f ∙ ap ends_of here in
-    rw (ye, xe) (same_ends c a m fit x y here there)
+-- what fits at a node fits at the wires of that node
+pub fits_at : (c : Circuit) (a : ℕ) (m : Circuit) → Fitting c a m → FitsAt (ends_at (slice_get c.nodes a)) m
+fits_at c a m fit = record {
+  network = record { some = fit.some; wired = fit.fit_part };
+  closed = fit.closed_part;
+  sized = sized;
+  not_through = fit.not_through;
+}
+  where
+    sized : length (ends_at (slice_get c.nodes a)) ≡ length (ends_at (slice_get m.nodes 0))
+    sized =
+        let (y, there) = node_at m.nodes 0 fit.some in
+        let (x, here) = node_at c.nodes a fit.inside in
+        let first = all_nodes (IsWired c.wires) c.nodes a x fit.fit_net here in
+        let second = all_nodes (IsWired m.wires) m.nodes 0 y fit.fit_part there in
+        let specs : x.spec ≡ y.spec = same_Some x.spec y.spec (sym (ap spec_of here) ∙ fit.same ∙ ap spec_of there) in
+        ap (λ o. length (ends_at o)) here ∙ first.sized ∙ ap (λ s. length (outs_of s)) specs ∙ sym second.sized ∙ sym (ap (λ o. length (ends_at o)) there)
+
+-- The components with the numbers of the table are those with the new numbers.
+pub moved_by_table : (ends : List ℕ) (first : ℕ) (m : Circuit) → IsNetwork m → (nodes : List Node) (table : List ℕ)
+    → table ≡ map (renumber_at ends first m) (range_with_len 0 m.wires) → nodes ≡ map (moved (λ w. get_or table w 0)) (drop 1 m.nodes)
+    → nodes ≡ map (moved (renumber_at ends first m)) (drop 1 m.nodes)
+moved_by_table ends first m net nodes table e g =
+    let known : (w : ℕ) → w < m.wires → get_or table w 0 ≡ renumber_at ends first m w =
+    λ w l. ap (λ t. get_or t w 0) e ∙ get_or-map-range_with_len (renumber_at ends first m) 0 m.wires w w 0 l (omega arith) in
+    g ∙ moved_same (λ w. get_or table w 0) (renumber_at ends first m) m.wires (drop 1 m.nodes) known (all_dropped (IsWired m.wires) m.nodes net.wired)
 
 -- The network with the moved components is the spliced one.
-pub spliced_is : (c : Circuit) (a : ℕ) (m : Circuit) → Fitting c a m → (nodes : List Node) (table : List ℕ) (wires : ℕ) → table ≡ map (renumber c a m) (range_with_len 0 m.wires)
-    → wires ≡ c.wires + rank (is_inner m) m.wires → nodes ≡ map (moved (λ w. get_or table w 0)) (drop 1 m.nodes) → replaced c a nodes wires ≡ spliced c a m
-unfolding spliced
-spliced_is c a m fit nodes table wires e f g =
-    let known : (w : ℕ) → w < m.wires → get_or table w 0 ≡ renumber c a m w =
-    λ w l. ap (λ t. get_or t w 0) e ∙ get_or-map-range_with_len (renumber c a m) 0 m.wires w w 0 l (omega arith) in
-    let moves : nodes ≡ map (moved (renumber c a m)) (drop 1 m.nodes) =
-    g ∙ moved_same (λ w. get_or table w 0) (renumber c a m) m.wires (drop 1 m.nodes) known (all_dropped (IsWired m.wires) m.nodes fit.fit_part) in
-    λ i. record { nodes = take a c.nodes ++ (moves i ++ drop (suc a) c.nodes); wires = f i }
+pub spliced_is : (c : Circuit) (a : ℕ) (m : Circuit) (ends : List ℕ) (first : ℕ) (nodes : List Node) (wires : ℕ)
+    → first ≡ c.wires → ends ≡ ends_at (slice_get c.nodes a)
+    → nodes ≡ map (moved (renumber_at ends first m)) (drop 1 m.nodes) → wires ≡ first + rank (is_inner m) m.wires
+    → replaced c a nodes wires ≡ spliced c a m
+unfolding spliced renumber
+spliced_is c a m ends first nodes wires d e g f =
+    let moves : nodes ≡ map (moved (renumber_at (ends_at (slice_get c.nodes a)) c.wires m)) (drop 1 m.nodes) =
+    g ∙ (λ i. map (moved (renumber_at (e i) (d i) m)) (drop 1 m.nodes)) in
+    let count : wires ≡ c.wires + rank (is_inner m) m.wires = f ∙ ap (λ n. n + rank (is_inner m) m.wires) d in
+    λ i. record { nodes = take a c.nodes ++ (moves i ++ drop (suc a) c.nodes); wires = count i }
 
-rank_few : (f : ℕ → Bool) (n : ℕ) → rank f n ≤ n
+pub rank_few : (f : ℕ → Bool) (n : ℕ) → rank f n ≤ n
 rank_few f zero = let none = rank_none 0 f in omega arith
 rank_few f (suc n) = elim (cases_Bool (f n)) [
   | inl e ↦ omega (arith, rank_more f n e, rank_few f n)

@@ -1,3 +1,4 @@
 pub mod Splice
 pub mod Refusals
-pub mod Renumbering
+pub mod Splices
+pub mod Mirror

@@ -1,6 +1,6 @@
 -- When a network cannot take the place of a node, and why.
-use Rattle.std.specs.Prelude.{◌≡◌, ℕ, ◌<◌, slice_get, Option, None, Some, List, []}
-use Rattle.net_core.specs.Wiring.{Node, Circuit}
+use Rattle.std.specs.Prelude.{◌≡◌, ℕ, ◌<◌, slice_get}
+use Rattle.net_core.specs.Wiring.{Circuit}
 use Rattle.net_core.specs.Networks.{spec_of, IsThrough}
 use Rattle.substitute.specs.Splice.{driver, receiver}
 use Rattle.substitute.specs.declared.whole.SpliceRefusal.{SpliceRefusal}
@@ -21,11 +21,6 @@ IsNone P n = (v : ℕ) → v < n → P v → ⊥
 -- w is the least number below n of which P holds
 abbrev pub IsLeast : (ℕ → Type 0) → ℕ → ℕ → Type 0
 IsLeast P n w = (w < n) × P w × ((v : ℕ) → v < w → P v → ⊥)
-
--- the wires at the ports of a node
-abbrev pub ends_of : Option Node → List ℕ
-ends_of None = []
-ends_of (Some x) = x.ends
 
 -- why m does not take the place of node a of c
 abbrev pub Refuses : Circuit → ℕ → Circuit → SpliceRefusal → Type 0

@@ -1,26 +1,19 @@
-//! A network in the place of one node of another.
+//! Networks in the places of nodes of another: of one node by `splice`, of many at once by `splice_all`.
+//!
+//! A network that is specified as a node is takes the place of the node: the wires at its environment are fused
+//! with those at the node's ports, and its inner wires take the next numbers. `specs/Splice.antt` says which network
+//! results (`spliced`) and when one may take a place (`Fitting`), and `specs/Splices.antt` the same of many. What is
+//! closed, clean, sound and correct stays so where the parts are: `splice_law` and `splices_law`.
 #![tactic(auto)]
 
+mod fits;
+mod laws;
+mod many;
+mod parts;
 mod renumber;
-#[cfg(test)]
-mod tests;
 mod whole;
 
-ghost use Rattle.std.specs.Prelude.{ℕ};
-ghost use Rattle.std.specs.List.{AllByRecursion};
-ghost use Rattle.net_core.specs.declared.spec.NodeSpec.{NodeSpec};
-ghost use Rattle.net_core.specs.Wiring.{Circuit, IsWired, IsClosed};
-ghost use Rattle.net_core.specs.Networks.{IsClean, SoundFor, Correct};
-ghost use Rattle.substitute.specs.Splice.{spliced, Fitting};
-
+pub use fits::fits_each;
+pub use laws::{splice_law, splices_law};
+pub use many::splice_all;
 pub use whole::{SpliceRefusal, splice};
-
-/// What a network keeps where another one takes the place of one of its nodes: each node has its wires, each
-/// wire its two ends, and it is sound and correct for what it was.
-pub fn splice_law()
-    ensures fits { (c m : Circuit) (a : ℕ) → Fitting c a m → AllByRecursion (IsWired (spliced c a m).wires) (spliced c a m).nodes }
-    ensures closed { (c m : Circuit) (a : ℕ) → Fitting c a m → IsClosed (spliced c a m) }
-    ensures clean { (c m : Circuit) (a : ℕ) → Fitting c a m → IsClean c → IsClean m → IsClean (spliced c a m) }
-    ensures sound { (c m : Circuit) (a : ℕ) (s t : NodeSpec) → Fitting c a m → SoundFor c s → SoundFor m t → SoundFor (spliced c a m) s }
-    ensures correct { (c m : Circuit) (a : ℕ) (s t : NodeSpec) → Fitting c a m → Correct c s → Correct m t → Correct (spliced c a m) s }
-{}

@@ -4,10 +4,12 @@ ghost use Rattle.net_core.specs.declared.spec.NodeSpec.{NodeSpec};
 ghost use Rattle.net_core.specs.Wiring.{IsWired, IsClosed, moved, replaced};
 ghost use Rattle.net_core.specs.Networks.{IsClean, SoundFor, Correct};
 ghost use Rattle.substitute.specs.Splice.{spliced, Fitting, renumber, rank, is_inner};
-ghost use Rattle.substitute.specs.Refusals.{IsSame, IsAround, IsNone, IsLeast, Refuses, ends_of};
+ghost use Rattle.substitute.specs.Refusals.{IsSame, IsAround, IsNone, IsLeast, Refuses};
+ghost use Rattle.net_core.specs.Walk.{ends_at};
 
-use crate::renumber::{Numbers, fill_numbers, fused_wires, moved_nodes, repeated};
-use net_core::{Net, Node, same_spec};
+use crate::parts::{new_parts, wires_of};
+use crate::renumber::repeated;
+use net_core::{Net, network_law, same_spec};
 use std::alloc::{AllocError, Global};
 
 /// Why a network does not take the place of a node.
@@ -39,9 +41,13 @@ pub fn splice(alloc: Global, net: Net, at: u32, sub: &Net) -> Result<Net, (Net, 
     ensures reason { IfErr result (λ refusal. Refuses net at sub.now refusal.1) }
     ensures closed { IfOk result (λ whole. IsClosed whole) }
     ensures clean { IsClean net → IsClean sub.now → IfOk result (λ whole. IsClean whole) }
-    ensures sound { (s t : NodeSpec) → SoundFor net s → SoundFor sub.now t → IfOk result (λ whole. SoundFor whole s) }
-    ensures correct { (s t : NodeSpec) → Correct net s → Correct sub.now t → IfOk result (λ whole. Correct whole s) }
-    ensures no_wire { IsClean net → IsClean sub.now → IfErr result (λ refusal. (refusal.1 ≡ SpliceRefusal.SpecDiffers) ⊎ (refusal.1 ≡ SpliceRefusal.NoMemory)) }
+    ensures sound { (s t : NodeSpec) → SoundFor net s → SoundFor sub.now t
+        → IfOk result (λ whole. SoundFor whole s) }
+    ensures correct { (s t : NodeSpec) → Correct net s → Correct sub.now t
+        → IfOk result (λ whole. Correct whole s) }
+    ensures no_wire { IsClean net → IsClean sub.now
+        → IfErr result
+        (λ refusal. (refusal.1 ≡ SpliceRefusal.SpecDiffers) ⊎ (refusal.1 ≡ SpliceRefusal.NoMemory)) }
 {
     put_in_place(alloc, net, at, sub)
 }
@@ -60,7 +66,7 @@ fn put_in_place(alloc: Global, net: Net, at: u32, sub: &Net) -> Result<Net, (Net
     if let Some(refusal) = obstacle(alloc, &net, at, sub) {
         return Err((net, refusal));
     }
-    match new_parts(alloc, &net, at, sub) {
+    match new_parts(alloc, wires_of(&net, at), net.wires, sub) {
         Err(_) => Err((net, SpliceRefusal::NoMemory)),
         Ok(parts) => match net.replace(alloc, at, parts.nodes, parts.wires) {
             Err((net, _)) => Err((net, SpliceRefusal::NoMemory)),
@@ -77,8 +83,8 @@ fn obstacle(alloc: Global, net: &Net, at: u32, sub: &Net) -> Option<SpliceRefusa
     requires inside { at < length net.now.nodes }
     ensures { MatchOption result (Fitting net.now at sub.now) (λ refusal. Refuses net.now at sub.now refusal) }
 {
-    well(net);
-    well(sub);
+    network_law(net);
+    network_law(sub);
     if !is_same(net, at, sub) {
         return Some(SpliceRefusal::SpecDiffers);
     }
@@ -93,15 +99,8 @@ fn obstacle(alloc: Global, net: &Net, at: u32, sub: &Net) -> Option<SpliceRefusa
     }
 }
 
-/// Each node of a network has its wires, and it has an environment.
-fn well(net: &Net)
-    ensures fit { AllByRecursion (IsWired net.now.wires) net.now.nodes }
-    ensures some { 0 < length net.now.nodes }
-{
-    let _ = &net.nodes;
-}
-
-fn is_same(net: &Net, at: u32, sub: &Net) -> bool
+/// Whether the node is specified as the network's environment is.
+pub fn is_same(net: &Net, at: u32, sub: &Net) -> bool
     requires inside { at < length net.now.nodes }
     ensures { IsTrue result ↔ IsSame net.now at sub.now }
 {
@@ -109,59 +108,11 @@ fn is_same(net: &Net, at: u32, sub: &Net) -> bool
 }
 
 /// The least wire that goes from the node to itself.
-fn around(alloc: Global, net: &Net, node: u32) -> Result<Option<u32>, AllocError>
+pub fn around(alloc: Global, net: &Net, node: u32) -> Result<Option<u32>, AllocError>
     requires closed { IsClosed net.now }
     requires inside { node < length net.now.nodes }
-    ensures { IfOk result (λ found. MatchOption found (IsNone (IsAround net.now node) net.now.wires) (λ w. IsLeast (IsAround net.now node) net.now.wires w)) }
+    ensures { IfOk result (λ found. MatchOption found (IsNone (IsAround net.now node) net.now.wires)
+        (λ w. IsLeast (IsAround net.now node) net.now.wires w)) }
 {
     repeated(alloc, wires_of(net, node), net.wires)
-}
-
-/// The wires at the ports of a node.
-fn wires_of(net: &Net, node: u32) -> &[u32]
-    requires inside { node < length net.now.nodes }
-    ensures ends { result.now ≡ ends_of (slice_get net.now.nodes node) }
-    ensures known { AllByRecursion (λ w. w < net.now.wires) result.now }
-{
-    &net.nodes[node as usize].wires
-}
-
-/// The components that take the place of a node, and how many wires there then are.
-#[derive(Drop)]
-struct Parts {
-    nodes: Vec<Node>,
-    wires: u32,
-}
-
-/// The components of `sub` with their numbers in the whole.
-fn new_parts(alloc: Global, net: &Net, at: u32, sub: &Net) -> Result<Parts, AllocError>
-    requires fitting { Fitting net.now at sub.now }
-    requires few { net.now.wires + sub.now.wires < 2 ^ 31 }
-    ensures { IfOk result (λ parts. replaced net.now at parts.nodes.items parts.wires ≡ spliced net.now at sub.now) }
-{
-    let numbers = new_numbers(alloc, net, at, sub)?;
-    let nodes = moved_parts(alloc, sub, &numbers.table)?;
-    Ok(Parts {
-        nodes,
-        wires: numbers.wires,
-    })
-}
-
-/// The number of each wire of `sub` in the whole, and how many wires the whole has.
-fn new_numbers(alloc: Global, net: &Net, at: u32, sub: &Net) -> Result<Numbers, AllocError>
-    requires fitting { Fitting net.now at sub.now }
-    requires few { net.now.wires + sub.now.wires < 2 ^ 31 }
-    ensures table { IfOk result (λ numbers. numbers.table.items ≡ map (renumber net.now at sub.now) (range_with_len 0 sub.now.wires)) }
-    ensures wires { IfOk result (λ numbers. numbers.wires ≡ net.now.wires + rank (is_inner sub.now) sub.now.wires) }
-{
-    let fused = fused_wires(alloc, wires_of(sub, 0), wires_of(net, at), sub.wires)?;
-    fill_numbers(alloc, fused.as_slice(), net.wires)
-}
-
-/// Copies of the components of a network, with the table's numbers for their wires.
-fn moved_parts(alloc: Global, sub: &Net, table: &[u32]) -> Result<Vec<Node>, AllocError>
-    requires { length table.now ≡ sub.now.wires }
-    ensures { IfOk result (λ nodes. nodes.items ≡ map (moved (λ w. slice_index table.now w)) (drop 1 sub.now.nodes)) }
-{
-    moved_nodes(alloc, &sub.nodes[1..], table)
 }

@@ -1,5 +1,0 @@
-use Rattle.std.proofs.Common.{◌≡◌, ◌+◌}
-use Rattle.di_top.proofs.network.add_wires.Given as goal
-
-abbrev pub invariant-loop-wire : goal.invariant-loop-wire
-invariant-loop-wire l = l.builder ≡ record l.initial.builder { wires = l.initial.builder.wires + l._wire }
