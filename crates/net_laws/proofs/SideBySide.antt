@@ -167,9 +167,6 @@ ports_at k m (suc n) = Req n ∷ row (Put n) m
 one_put : (i j a b : ℕ) → Put i j ≡ Put a b → (i ≡ a) × (j ≡ b)
 one_put i j a b e = (cc, cc)
 
-req_put : (k m i : ℕ) → Among (Req i) (rows Put k m) → ⊥
-req_put k m i a = let (b, o, low, in_row, e) = among_rows Put m k (Req i) a in cc
-
 env_distinct : (k m : ℕ) → Distinct (row Req k ++ rows Put k m)
 env_distinct k m = distinct_both (row Req k) (rows Put k m) (distinct_row Req (λ i j e. cc) k) (distinct_rows Put m one_put k)
     (λ x a b. let (i, low, e) = among_row Req k x a in let (j, o, high, in_row, f) = among_rows Put m k x b in cc)
