@@ -1,5 +1,5 @@
 -- The rule of a kind by the list of its wires: one law for all ten kinds.
-use Rattle.std.proofs.Common.{◌≡◌, ◌↔◌, ℕ, zero, suc, ◌+◌, ◌<◌, ◌≤◌, Bool, List, [], ◌∷◌, ◌++◌, map, length, get_or, ◌⊎◌, inl, inr, refl, sym, ap, subst, ◌∙◌, arith}
+use Rattle.std.proofs.Common.{◌≡◌, ◌↔◌, ℕ, suc, ◌+◌, ◌<◌, ◌≤◌, Bool, List, [], ◌∷◌, ◌++◌, map, length, get_or, ◌⊎◌, inl, inr, refl, sym, ap, subst, ◌∙◌, arith}
 use Rattle.std.specs.List.{AllByRecursion}
 use Rattle.std.proofs.Math.Path.{fun_ext}
 use Rattle.std.proofs.lemmas.Bool.{cases_lt}
@@ -87,7 +87,7 @@ module _ {W : Type 0} (same : W → W → Bool) (decides : Decides same) (ws : L
         let low : p < length ws = inside (counts u) p f.0 in (
           (p, low, refl, subst (λ (c : ℕ → ℕ). KindAt k c p) (fun_ext (counts_are u all)) f.0),
           subst (λ v. Follows (λ v w. KindOn k ws b (tally same naught v) w) v (map label t)) (map-append label u (p ∷ []))
-          (there (u ++ p ∷ []) (all_both (λ p. p < length ws) u (p ∷ []) all (low, tt)) t f.1),
+              (there (u ++ p ∷ []) (all_both (λ p. p < length ws) u (p ∷ []) all (low, tt)) t f.1),
         )
 
     back : (u : List ℕ) → AllByRecursion (λ p. p < length ws) u → (t : List ℕ)
@@ -102,7 +102,7 @@ module _ {W : Type 0} (same : W → W → Bool) (decides : Decides same) (ws : L
         let here : p ≡ q = distinct_at b ws distinct p q low near is in (
           subst (λ (c : ℕ → ℕ). KindAt k c p) (sym (fun_ext (counts_are u all))) (subst (λ j. KindAt k (λ i. tally same naught (map label u) (label i)) j) (sym here) r),
           back (u ++ p ∷ []) (all_both (λ p. p < length ws) u (p ∷ []) all (low, tt)) t
-          (subst (λ v. Follows (λ v w. KindOn k ws b (tally same naught v) w) v (map label t)) (sym (map-append label u (p ∷ []))) f.1),
+              (subst (λ v. Follows (λ v w. KindOn k ws b (tally same naught v) w) v (map label t)) (sym (map-append label u (p ∷ []))) f.1),
         )
 
     -- the traces of a node of the kind with these wires
