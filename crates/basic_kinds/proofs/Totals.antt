@@ -3,14 +3,6 @@ use Rattle.std.proofs.Common.{◌≡◌, ℕ, zero, suc, ◌+◌, ◌<◌, ◌�
 use Rattle.std.proofs.lemmas.Bool.{cases_lt}
 use Rattle.basic_kinds.specs.Totals.{total}
 
-pub total_zero : (u : ℕ → ℕ) → total 0 u ≡ 0
-unfolding total
-total_zero u = refl
-
-pub total_suc : (k : ℕ) (u : ℕ → ℕ) → total (suc k) u ≡ total k u + u k
-unfolding total
-total_suc k u = refl
-
 pub total_same : (k : ℕ) (u v : ℕ → ℕ) → ((i : ℕ) → i < k → u i ≡ v i) → total k u ≡ total k v
 unfolding total
 total_same zero u v h = refl
@@ -114,10 +106,6 @@ total_some (suc k) u v h = at (cases_lt (u k) (v k)) (total_some k u v)
         × (i < suc k) × (u i < v i)
     at (inl x) f = (k, omega arith, x)
     at (inr x) f = let r : (i : ℕ) × (i < k) × (u i < v i) = f (omega arith) in (r.0, omega (arith, r.1), r.2)
-
--- a sum that is not zero has such a part
-pub total_positive : (k : ℕ) (u : ℕ → ℕ) → 0 < total k u → (i : ℕ) × (i < k) × (0 < u i)
-total_positive k u h = total_some k (λ i. 0) u (omega (arith, total_none k (λ i. 0) (λ i x. refl)))
 
 pub total_add : (k : ℕ) (u v : ℕ → ℕ) → total k (λ i. u i + v i) ≡ total k u + total k v
 unfolding total

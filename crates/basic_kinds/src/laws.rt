@@ -22,5 +22,6 @@ pub fn rounds_law()
 pub fn kinds_by_counts()
     ensures counts { (kind : Kind) (t : List ℕ) → IsWide kind → (KindTrace kind t ↔ KindFollows kind t) }
     ensures empty { (kind : Kind) → IsWide kind → KindTrace kind [] }
-    ensures push { (kind : Kind) (t : List ℕ) (p : ℕ) → IsWide kind → (KindTrace kind (t ++ p ∷ []) ↔ (KindTrace kind t × KindAt kind (counts t) p)) }
+    ensures push { (kind : Kind) (t : List ℕ) (p : ℕ) → IsWide kind
+        → (KindTrace kind (t ++ p ∷ []) ↔ (KindTrace kind t × KindAt kind (counts t) p)) }
 {}

@@ -1,4 +1,8 @@
 //! The ten kinds of basic components, each specified by a command over its ports.
+//!
+//! `specs/KindTraces.antt` has the command of each kind, which says its traces. `specs/KindCounts.antt` says by how
+//! often each port has come which port may come next. That this decides the same traces is the law
+//! `kinds_by_counts`, by which networks of components are proved correct.
 #![tactic(auto)]
 
 mod copy;

@@ -49,11 +49,9 @@ fn three_names(alloc: Global) -> Result<NameSet, AllocError>
 
 // `b!|c!;(a?|b?)`
 fn nested_choice(alloc: Global) -> Result<Item, AllocError>
-    ensures {
-        let inner = TAlt (Or (Then (TBurst (input 0 ∷ [])) Done) (Or (Then (TBurst (input 1 ∷ [])) Done) Stop)) in
+    ensures { let inner = TAlt (Or (Then (TBurst (input 0 ∷ [])) Done) (Or (Then (TBurst (input 1 ∷ [])) Done) Stop)) in
         let second = Then (TBurst (output 2 ∷ [])) (Then inner Done) in
-        IfOk result (λ item. item_of item ≡ TAlt (Or (Then (TBurst (output 1 ∷ [])) Done) (Or second Stop)))
-    }
+        IfOk result (λ item. item_of item ≡ TAlt (Or (Then (TBurst (output 1 ∷ [])) Done) (Or second Stop))) }
 {
     let input_a = sequence(vec![in alloc; single(alloc, 0, Dir::Input)?]?);
     let input_b = sequence(vec![in alloc; single(alloc, 1, Dir::Input)?]?);

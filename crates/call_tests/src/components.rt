@@ -1,13 +1,25 @@
 //! Kinds of components, and components replaced by networks.
+ghost use Rattle.std.specs.Prelude.{◌≡◌, ◌+◌, ◌<◌, ◌^◌, [], ◌∷◌, length, IfOk};
+ghost use Rattle.cmd_tree.specs.Tree.{TBurst};
+ghost use Rattle.cmd_tree.specs.View.{item_of};
+ghost use Rattle.net_core.specs.Specs.{outs_of, IsFormed};
+
 use basic_kinds::{Kind, Shape, kinds_by_counts, ports, rounds_law};
+use cmd_tree::{Command, Dir, Item, Mark, Name, NameSet, Proc, Seq, Sym};
+use net_core::{Net, NetBuilder, NodeSpec, closed};
 use sqlite_items::Items;
+use std::alloc::{AllocError, Global};
+use std::process::Abort;
 use std::test::Fail;
+use substitute::{SpliceRefusal, fits_each, splice, splice_all, splice_law, splices_law};
 
 // The laws have nothing to run: this says that they may be called.
 #[test]
-fn laws_of_kinds_are_callable() {
+fn laws_of_components_are_callable() {
     rounds_law();
     kinds_by_counts();
+    splice_law();
+    splices_law();
 }
 
 #[test]
@@ -38,5 +50,286 @@ fn ports_of_a_decision_wait(rt: HostRuntime) -> Result<(), Fail> {
         cross,
     };
     assert_eq!(rt; ports(&Kind::Dw(shape)), (4, 3));
+    Ok(())
+}
+
+fn single(alloc: Global, symbol: u32, dir: Dir) -> Result<Item, AllocError>
+    ensures { IfOk result (λ item. item_of item ≡ TBurst (record { sym = record { 0 = symbol }; dir = dir } ∷ [])) }
+{
+    let mark = Mark {
+        sym: Sym(symbol),
+        dir,
+    };
+    Ok(Item::Burst(Items::from_slice(alloc, &[mark])?))
+}
+
+/// `pref*[a?;b!]`, or `pref*[a!;b?]`.
+fn two_in_turn(alloc: Global, first: Dir, second: Dir) -> Result<Command, AllocError>
+    ensures { IfOk result (λ command. length command.names ≡ 2) }
+{
+    let mut names = NameSet::new(alloc);
+    names.insert(Name::new(alloc, b"a")?)?;
+    names.insert(Name::new(alloc, b"b")?)?;
+    let items = vec![in alloc; single(alloc, 0, first)?, single(alloc, 1, second)?]?;
+    let body = Seq {
+        items: Items::from_vec(items),
+    };
+    let process = Proc {
+        lead: None,
+        body: Some(body),
+    };
+    let procs = Items::from_vec(vec![in alloc; process]?);
+    Ok(Command { names, procs })
+}
+
+/// The command `pref*[a?;b!]` as a specification.
+fn command(alloc: Global) -> Result<NodeSpec, AllocError>
+    ensures { IfOk result (λ spec. (length (outs_of spec) ≡ 2) × IsFormed spec) }
+{
+    Ok(NodeSpec::Cmd(two_in_turn(alloc, Dir::Input, Dir::Output)?))
+}
+
+/// A network of one component: port p of the environment and port p of the component are at the wire p.
+fn one_component(alloc: Global, outside: NodeSpec, inside: NodeSpec) -> Result<Net, AllocError>
+    requires outside { (length (outs_of outside) ≡ 2) × IsFormed outside }
+    requires inside { (length (outs_of inside) ≡ 2) × IsFormed inside }
+{
+    let mut builder = NetBuilder::new(alloc, outside)?;
+    builder.wires(2)?;
+    builder.node(inside, vec![in alloc; 0, 1]?)?;
+    builder.finish(vec![in alloc; 0, 1]?)
+}
+
+/// An environment of `pref*[a!;b?]`, and an IWIRE from b to a.
+fn one_turned(alloc: Global) -> Result<Net, AllocError> {
+    let outside = NodeSpec::Cmd(two_in_turn(alloc, Dir::Output, Dir::Input)?);
+    let mut builder = NetBuilder::new(alloc, outside)?;
+    builder.wires(2)?;
+    builder.node(NodeSpec::Kind(Kind::Iwire), vec![in alloc; 1, 0]?)?;
+    builder.finish(vec![in alloc; 0, 1]?)
+}
+
+/// So many WIREs in a row between the ports of an environment of a WIRE, and the wires between them in order.
+fn wires_in_a_row(alloc: Global, many: u32) -> Result<Net, AllocError>
+    requires { many + 2 < 2 ^ 32 }
+{
+    let mut builder = NetBuilder::new(alloc, NodeSpec::Kind(Kind::Wire))?;
+    builder.wires(many + 1)?;
+    for from in 0..many {
+        builder.node(NodeSpec::Kind(Kind::Wire), vec![in alloc; from, from + 1]?)?;
+    }
+    builder.finish(vec![in alloc; 0, many]?)
+}
+
+/// A WIRE from wire 0 to wire 1, and a component with both ports at wire 2.
+fn with_a_loop(alloc: Global, around: NodeSpec) -> Result<Net, AllocError>
+    requires { (length (outs_of around) ≡ 2) × IsFormed around }
+{
+    let mut builder = NetBuilder::new(alloc, NodeSpec::Kind(Kind::Wire))?;
+    builder.wires(3)?;
+    builder.node(NodeSpec::Kind(Kind::Wire), vec![in alloc; 0, 1]?)?;
+    builder.node(around, vec![in alloc; 2, 2]?)?;
+    builder.finish(vec![in alloc; 0, 1]?)
+}
+
+/// An environment with one wire for both ports.
+fn straight(alloc: Global, outside: NodeSpec) -> Result<Net, AllocError>
+    requires { (length (outs_of outside) ≡ 2) × IsFormed outside }
+{
+    let mut builder = NetBuilder::new(alloc, outside)?;
+    builder.wires(1)?;
+    builder.finish(vec![in alloc; 0, 0]?)
+}
+
+/// What the splice gives, or how it is refused; a refused network comes back with its wires.
+fn spliced(
+    rt: &impl Abort,
+    alloc: Global,
+    net: Net,
+    at: u32,
+    sub: &Net,
+) -> Result<Net, SpliceRefusal> {
+    let wires = net.wires;
+    assert!(rt; closed(&net).is_none());
+    assert!(rt; closed(sub).is_none());
+    assert!(rt; 0 < at && (at as usize) < net.nodes.len());
+    assert!(rt; net.wires < 100 && sub.wires < 100);
+    match splice(alloc, net, at, sub) {
+        Ok(whole) => Ok(whole),
+        Err((net, refusal)) => {
+            assert_eq!(rt; net.wires, wires);
+            Err(refusal)
+        }
+    }
+}
+
+fn refusal(rt: &impl Abort, alloc: Global, net: Net, at: u32, sub: &Net) -> Option<SpliceRefusal> {
+    spliced(rt, alloc, net, at, sub).err()
+}
+
+#[test]
+fn refuses_with_the_network_back(rt: HostRuntime) -> Result<(), Fail> {
+    let alloc = rt.alloc();
+    let wire = wires_in_a_row(alloc, 1)?;
+    let iwire = one_component(
+        alloc,
+        NodeSpec::Kind(Kind::Wire),
+        NodeSpec::Kind(Kind::Iwire),
+    )?;
+    assert_eq!(rt;
+        refusal(&rt, alloc, iwire, 1, &wire),
+        Some(SpliceRefusal::SpecDiffers)
+    );
+    let through = straight(alloc, NodeSpec::Kind(Kind::Wire))?;
+    let one = wires_in_a_row(alloc, 1)?;
+    assert_eq!(rt;
+        refusal(&rt, alloc, one, 1, &through),
+        Some(SpliceRefusal::ThroughWire { wire: 0 })
+    );
+    let around = with_a_loop(alloc, NodeSpec::Kind(Kind::Wire))?;
+    assert_eq!(rt;
+        refusal(&rt, alloc, around, 2, &wire),
+        Some(SpliceRefusal::SelfWire { wire: 2 })
+    );
+    Ok(())
+}
+
+#[test]
+fn refuses_at_a_node_with_a_command(rt: HostRuntime) -> Result<(), Fail> {
+    let alloc = rt.alloc();
+    let turned = one_turned(alloc)?;
+    let other = one_component(alloc, NodeSpec::Kind(Kind::Wire), command(alloc)?)?;
+    assert_eq!(rt;
+        refusal(&rt, alloc, other, 1, &turned),
+        Some(SpliceRefusal::SpecDiffers)
+    );
+    let wire = wires_in_a_row(alloc, 1)?;
+    let other = one_component(alloc, NodeSpec::Kind(Kind::Wire), command(alloc)?)?;
+    assert_eq!(rt;
+        refusal(&rt, alloc, other, 1, &wire),
+        Some(SpliceRefusal::SpecDiffers)
+    );
+    let through = straight(alloc, command(alloc)?)?;
+    let one = one_component(alloc, NodeSpec::Kind(Kind::Wire), command(alloc)?)?;
+    assert_eq!(rt;
+        refusal(&rt, alloc, one, 1, &through),
+        Some(SpliceRefusal::ThroughWire { wire: 0 })
+    );
+    let sub = one_component(alloc, command(alloc)?, NodeSpec::Kind(Kind::Wire))?;
+    let around = with_a_loop(alloc, command(alloc)?)?;
+    assert_eq!(rt;
+        refusal(&rt, alloc, around, 2, &sub),
+        Some(SpliceRefusal::SelfWire { wire: 2 })
+    );
+    let one = one_component(alloc, NodeSpec::Kind(Kind::Wire), command(alloc)?)?;
+    assert_eq!(rt; refusal(&rt, alloc, one, 1, &sub), None);
+    Ok(())
+}
+
+#[test]
+fn splices_into_a_spliced_network(rt: HostRuntime) -> Result<(), Fail> {
+    let alloc = rt.alloc();
+    let two = wires_in_a_row(alloc, 2)?;
+    let Ok(once) = spliced(&rt, alloc, wires_in_a_row(alloc, 1)?, 1, &two) else {
+        panic!(rt; "refused");
+    };
+    assert_eq!(rt; once.wires, 3);
+    let Ok(twice) = spliced(&rt, alloc, once, 2, &two) else {
+        panic!(rt; "refused");
+    };
+    assert_eq!(rt; twice.wires, 4);
+    let ends = [[0, 1], [0, 2], [2, 3], [3, 1]];
+    assert_eq!(rt; twice.nodes.len(), ends.len());
+    for (node, wires) in twice.nodes.iter().zip(ends.iter()) {
+        assert_eq!(rt; node.wires.as_slice(), wires.as_slice());
+    }
+    Ok(())
+}
+
+fn with_parts(
+    rt: &impl Abort,
+    alloc: Global,
+    net: &Net,
+    parts: &[Option<Net>],
+) -> Result<Net, AllocError> {
+    assert!(rt; closed(net).is_none());
+    assert_eq!(rt; parts.len() + 1, net.nodes.len());
+    let fits = fits_each(alloc, net, parts)?;
+    assert!(rt; fits);
+    splice_all(alloc, net, parts)
+}
+
+#[test]
+fn parts_take_the_places_of_their_own_nodes(rt: HostRuntime) -> Result<(), Fail> {
+    let alloc = rt.alloc();
+    let net = wires_in_a_row(alloc, 4)?;
+    let two = wires_in_a_row(alloc, 2)?;
+    let three = wires_in_a_row(alloc, 3)?;
+    let parts = vec![in alloc; None, Some(two), None, Some(three)]?;
+    let whole = with_parts(&rt, alloc, &net, &parts)?;
+    assert_eq!(rt; whole.wires, 8);
+    let ends = [
+        [0, 4],
+        [0, 1],
+        [1, 5],
+        [5, 2],
+        [2, 3],
+        [3, 6],
+        [6, 7],
+        [7, 4],
+    ];
+    assert_eq!(rt; whole.nodes.len(), ends.len());
+    for (node, wires) in whole.nodes.iter().zip(ends.iter()) {
+        assert_eq!(rt; node.wires.as_slice(), wires.as_slice());
+    }
+    Ok(())
+}
+
+#[test]
+fn parts_that_do_not_fit_are_found(rt: HostRuntime) -> Result<(), Fail> {
+    let alloc = rt.alloc();
+    let net = with_a_loop(alloc, NodeSpec::Kind(Kind::Wire))?;
+    assert!(rt; closed(&net).is_none());
+    assert_eq!(rt; net.nodes.len(), 3);
+    let through = straight(alloc, NodeSpec::Kind(Kind::Wire))?;
+    let iwire = one_component(
+        alloc,
+        NodeSpec::Kind(Kind::Iwire),
+        NodeSpec::Kind(Kind::Iwire),
+    )?;
+    let first = [Some(wires_in_a_row(alloc, 2)?), None];
+    assert!(rt; fits_each(alloc, &net, &first)?);
+    let around = [None, Some(wires_in_a_row(alloc, 2)?)];
+    assert!(rt; !fits_each(alloc, &net, &around)?);
+    let passed = [Some(through), None];
+    assert!(rt; !fits_each(alloc, &net, &passed)?);
+    let other = [Some(iwire), None];
+    assert!(rt; !fits_each(alloc, &net, &other)?);
+    Ok(())
+}
+
+#[test]
+fn many_parts_in_time(rt: HostRuntime) -> Result<(), Fail> {
+    let alloc = rt.alloc();
+    let net = wires_in_a_row(alloc, 20_000)?;
+    let mut parts = Vec::new(alloc);
+    for _ in 0..20_000 {
+        parts.push(Some(wires_in_a_row(alloc, 3)?))?;
+    }
+    let whole = with_parts(&rt, alloc, &net, &parts)?;
+    assert_eq!(rt; whole.wires, 60_001);
+    assert_eq!(rt; whole.nodes.len(), 60_001);
+    assert!(rt; closed(&whole).is_none());
+    assert_eq!(rt; whole.nodes[1].wires.as_slice(), [0, 20_001].as_slice());
+    assert_eq!(rt;
+        whole.nodes[2].wires.as_slice(),
+        [20_001, 20_002].as_slice()
+    );
+    assert_eq!(rt; whole.nodes[3].wires.as_slice(), [20_002, 1].as_slice());
+    assert_eq!(rt; whole.nodes[4].wires.as_slice(), [1, 20_003].as_slice());
+    assert_eq!(rt;
+        whole.nodes[60_000].wires.as_slice(),
+        [60_000, 20_000].as_slice()
+    );
     Ok(())
 }

@@ -4,7 +4,8 @@ use Rattle.std.specs.Prelude.{◌<◌, nat_lt, slice_range, if◌then◌else◌}
 use Rattle.std.specs.Option.{IfSome, option_map}
 use Rattle.std.specs.Str.{bytes_eq}
 use Rattle.std.specs.List.{list_any}
-use Rattle.cmd_text.proofs.ReaderSteps.{hear_is, heard_at}
+use Rattle.cmd_text.proofs.ReaderSteps.{put_depth}
+use Rattle.cmd_text.proofs.Refusals.{end_refused}
 use Rattle.cmd_text.specs.declared.file.Refusal.{Refusal}
 use Rattle.cmd_text.specs.declared.token.Token as code
 use Rattle.cmd_text.specs.declared.token.Token.TheVariants as variant
@@ -13,12 +14,24 @@ use Rattle.cmd_text.specs.Token.{Token}
 use Rattle.cmd_text.specs.Names.{number_in}
 use Rattle.cmd_text.specs.Fault.{Fault, Unexpected, TooDeep}
 use Rattle.cmd_text.specs.Scan.{Scanned, Between, scan}
-use Rattle.cmd_text.specs.ScanView.{token_of, after, with_found, with_refusal, fault_of, IsPast}
+use Rattle.cmd_text.specs.Mirror.ScanView.{token_of, after, with_found, with_refusal, fault_of, IsPast}
 use Rattle.cmd_text.specs.contracts.token.Token.{the_type}
 use denote.Enum.Bare.{sameb}
-use Rattle.cmd_text.specs.Reader.{Spot, step, depth}
-use Rattle.cmd_text.specs.Reading.{Standing, with_heard, hear, go, judge, verdict}
-use Rattle.cmd_text.specs.ReaderView.{answer_from, answer_behind}
+use Rattle.cmd_text.specs.declared.file.Sentence.{Sentence}
+use Rattle.cmd_text.specs.declared.file.Factor.TheVariants.{Own}
+use Rattle.cmd_text.specs.declared.draft.Draft.{Draft}
+use Rattle.cmd_text.specs.declared.draft.Mode as mode_type
+use Rattle.cmd_text.specs.declared.draft.Mode.TheVariants as mode
+use Rattle.cmd_text.specs.declared.spot.Partly as code_partly
+use Rattle.cmd_text.specs.declared.spot.Spot as spot_type
+use Rattle.cmd_text.specs.declared.spot.Spot.TheVariants as spot
+use Rattle.cmd_text.specs.Process.{proc_of}
+use Rattle.cmd_text.specs.Mirror.Machine.{State, heard}
+use Rattle.cmd_text.specs.Mirror.Machine as machine
+use Rattle.cmd_text.specs.Mirror.Drafts.{state_of, state_at, lead_of, alts_of}
+use Rattle.cmd_text.specs.Mirror.Reader.{Partly, Spot, InProcess, AfterFactor, IsWithin, put, with_factor, step, open_brackets_at}
+use Rattle.cmd_text.specs.Mirror.Reading.{Standing, with_heard, hear, go, judge, verdict}
+use Rattle.cmd_text.specs.Mirror.ReaderView.{spot_of, answer_from, answer_behind}
 
 abbrev at : List (List ℕ) → Spot → Standing
 at ns s = record { names = ns; spot = s }
@@ -48,11 +61,11 @@ pub refused_here : (ns ms : List (List ℕ)) (s : Spot) (from : ℕ) (bs : List 
 refused_here ns ms s from bs f h e g = found_answer ns s from bs f h
     ∙ ap (λ o. judge (record { tok = token_of f.token (slice_range bs f.at f.next); at = f.at }) o (λ t. by_scan t (after f.token f.next bs))) (token_gone ns ms s (token_of f.token (slice_range bs f.at f.next)) f.at None e g)
 
-taken_here : (ns ms : List (List ℕ)) (s t : Spot) (from : ℕ) (bs : List ℕ) (f : Found) → scan Between from (drop from bs) ≡ with_found f bs → ms ≡ hear ns s (token_of f.token (slice_range bs f.at f.next)) → step (number_in ms) s (token_of f.token (slice_range bs f.at f.next)) (Some f.at) ≡ Some t → answer_from ns s from bs ≡ (if nat_lt 64 (depth t) then Err (TooDeep f.at) else by_scan (at ms t) (after f.token f.next bs))
+taken_here : (ns ms : List (List ℕ)) (s t : Spot) (from : ℕ) (bs : List ℕ) (f : Found) → scan Between from (drop from bs) ≡ with_found f bs → ms ≡ hear ns s (token_of f.token (slice_range bs f.at f.next)) → step (number_in ms) s (token_of f.token (slice_range bs f.at f.next)) (Some f.at) ≡ Some t → answer_from ns s from bs ≡ (if nat_lt 64 (open_brackets_at t) then Err (TooDeep f.at) else by_scan (at ms t) (after f.token f.next bs))
 taken_here ns ms s t from bs f h e g = found_answer ns s from bs f h
     ∙ ap (λ o. judge (record { tok = token_of f.token (slice_range bs f.at f.next); at = f.at }) o (λ u. by_scan u (after f.token f.next bs))) (token_gone ns ms s (token_of f.token (slice_range bs f.at f.next)) f.at (Some t) e g)
 
-pub deep_here : (ns ms : List (List ℕ)) (s t : Spot) (from : ℕ) (bs : List ℕ) (f : Found) → scan Between from (drop from bs) ≡ with_found f bs → ms ≡ hear ns s (token_of f.token (slice_range bs f.at f.next)) → step (number_in ms) s (token_of f.token (slice_range bs f.at f.next)) (Some f.at) ≡ Some t → nat_lt 64 (depth t) ≡ true → answer_from ns s from bs ≡ Err (TooDeep f.at)
+pub deep_here : (ns ms : List (List ℕ)) (s t : Spot) (from : ℕ) (bs : List ℕ) (f : Found) → scan Between from (drop from bs) ≡ with_found f bs → ms ≡ hear ns s (token_of f.token (slice_range bs f.at f.next)) → step (number_in ms) s (token_of f.token (slice_range bs f.at f.next)) (Some f.at) ≡ Some t → nat_lt 64 (open_brackets_at t) ≡ true → answer_from ns s from bs ≡ Err (TooDeep f.at)
 deep_here ns ms s t from bs f h e g d = taken_here ns ms s t from bs f h e g ∙ ap (λ b. if b then Err (TooDeep f.at) else by_scan (at ms t) (after f.token f.next bs)) d
 
 abbrev pub is_end : code.Token → Bool
@@ -63,20 +76,8 @@ behind : (t : code.Token) (ms : List (List ℕ)) (s : Spot) (next : ℕ) (bs : L
 behind variant.End ms s next bs = refl
 behind t ms s next bs = refl
 
-pub passed_here : (ns ms : List (List ℕ)) (s t : Spot) (from : ℕ) (bs : List ℕ) (f : Found) → scan Between from (drop from bs) ≡ with_found f bs → ms ≡ hear ns s (token_of f.token (slice_range bs f.at f.next)) → step (number_in ms) s (token_of f.token (slice_range bs f.at f.next)) (Some f.at) ≡ Some t → nat_lt 64 (depth t) ≡ false → answer_from ns s from bs ≡ answer_behind (is_end f.token) ms t f.next bs
+pub passed_here : (ns ms : List (List ℕ)) (s t : Spot) (from : ℕ) (bs : List ℕ) (f : Found) → scan Between from (drop from bs) ≡ with_found f bs → ms ≡ hear ns s (token_of f.token (slice_range bs f.at f.next)) → step (number_in ms) s (token_of f.token (slice_range bs f.at f.next)) (Some f.at) ≡ Some t → nat_lt 64 (open_brackets_at t) ≡ false → answer_from ns s from bs ≡ answer_behind (is_end f.token) ms t f.next bs
 passed_here ns ms s t from bs f h e g d = taken_here ns ms s t from bs f h e g ∙ ap (λ b. if b then Err (TooDeep f.at) else by_scan (at ms t) (after f.token f.next bs)) d ∙ behind f.token ms t f.next bs
-
--- ---- at most one name more
-more_by : (ns : List (List ℕ)) (n : List ℕ) (b : Bool) → length (if b then ns else ns ++ n ∷ []) ≤ length ns + 1
-more_by ns n true = omega arith
-more_by ns n false = omega (arith, length-append ns (n ∷ []))
-
-heard_more : (ns : List (List ℕ)) (o : Option (List ℕ)) → length (with_heard ns o) ≤ length ns + 1
-heard_more ns None = omega arith
-heard_more ns (Some n) = more_by ns n (list_any (bytes_eq n) ns)
-
-pub hear_more : (ns : List (List ℕ)) (s : Spot) (x : Token) → length (hear ns s x) ≤ length ns + 1
-hear_more ns s x = subst (λ v. length v ≤ length ns + 1) (sym (hear_is ns s x)) (heard_more ns (heard_at s x))
 
 -- ---- a token that is not the end takes bytes
 past_of : (t : code.Token) (a n from : ℕ) → is_end t ≡ false → IsPast (record { token = t; at = a; next = n }) from → from < n
@@ -89,3 +90,78 @@ past_token f from e p = past_of f.token f.at f.next from e p
 pub same_end : (t : code.Token) → sameb the_type t variant.End ≡ is_end t
 same_end variant.End = refl
 same_end t = refl
+
+not_end : (number : List ℕ → ℕ) (s u : State) (t : code.Token) (w : List ℕ) → machine.step number s (token_of t w) ≡ Some u → is_end t ≡ false
+not_end number s u variant.End w e = absurd (none_some (sym (end_refused number s) ∙ e))
+  where
+    none_some : None ≡ Some u → ⊥
+    none_some h = cc
+not_end number s u t w e = refl
+
+-- ---- a token of a process
+module _ (ns ms : List (List ℕ)) (q : Partly) (s : State) (from : ℕ) (bs : List ℕ) (f : Found) (x : Token)
+    (scanned : scan Between from (drop from bs) ≡ with_found f bs) (same : x ≡ token_of f.token (slice_range bs f.at f.next)) (heard_so : ms ≡ with_heard ns (heard s x)) where
+  heard_here : ms ≡ hear ns (InProcess q s) (token_of f.token (slice_range bs f.at f.next))
+  heard_here = subst (λ y. ms ≡ with_heard ns (heard s y)) same heard_so
+
+  stepped_here : (o : Option State) → machine.step (number_in ms) s x ≡ o → step (number_in ms) (InProcess q s) (token_of f.token (slice_range bs f.at f.next)) (Some f.at) ≡ option_map (put q) o
+  stepped_here o e = subst (λ y. option_map (put q) (machine.step (number_in ms) s y) ≡ option_map (put q) o) same (ap (λ v. option_map (put q) v) e)
+
+  pub token_refused : machine.step (number_in ms) s x ≡ None → (p : ℕ) → p ≡ f.at → answer_from ns (InProcess q s) from bs ≡ Err (Unexpected p)
+  token_refused e p a = refused_here ns ms (InProcess q s) from bs f scanned heard_here (stepped_here None e) ∙ ap (λ v. Err (Unexpected v)) (sym a)
+
+  pub token_deep : (t : State) → machine.step (number_in ms) s x ≡ Some t → nat_lt 64 (machine.open_brackets t) ≡ true → (p : ℕ) → p ≡ f.at → answer_from ns (InProcess q s) from bs ≡ Err (TooDeep p)
+  token_deep t e d p a = deep_here ns ms (InProcess q s) (put q t) from bs f scanned heard_here (stepped_here (Some t) e) (ap (λ n. nat_lt 64 n) (put_depth (number_in ms) q t) ∙ d) ∙ ap (λ v. Err (TooDeep v)) (sym a)
+
+  pub token_passed : (t : State) → machine.step (number_in ms) s x ≡ Some t → nat_lt 64 (machine.open_brackets t) ≡ false → answer_from ns (InProcess q s) from bs ≡ answer_from ms (put q t) f.next bs
+  token_passed t e d = passed_here ns ms (InProcess q s) (put q t) from bs f scanned heard_here (stepped_here (Some t) e) (ap (λ n. nat_lt 64 n) (put_depth (number_in ms) q t) ∙ d)
+      ∙ ap (λ b. answer_behind b ms (put q t) f.next bs) (not_end (number_in ms) s t f.token (slice_range bs f.at f.next) (subst (λ y. machine.step (number_in ms) s y ≡ Some t) same e))
+
+-- the token takes bytes
+pub token_past : (number : List ℕ → ℕ) (s u : State) (f : Found) (bs : List ℕ) (x : Token) (from : ℕ) → x ≡ token_of f.token (slice_range bs f.at f.next) → machine.step number s x ≡ Some u → IsPast f from → from < f.next
+token_past number s u f bs x from same e p = past_token f from (not_end number s u f.token (slice_range bs f.at f.next) (subst (λ y. machine.step number s y ≡ Some u) same e)) p
+
+-- what is read as long as the process is not closed
+pub still_within : (q : Partly) (d : Draft) → (d.mode ≡ mode.Closed → ⊥) → put q (state_of d) ≡ InProcess q (state_of d)
+still_within q d h = by d.mode h
+  where
+    by : (m : mode_type.Mode) → (m ≡ mode.Closed → ⊥) → put q (state_at m d) ≡ InProcess q (state_at m d)
+    by mode.Closed k = absurd (k refl)
+    by m k = refl
+
+pub closed_now : (q : Partly) (d : Draft) → d.mode ≡ mode.Closed → put q (state_of d) ≡ AfterFactor (with_factor q (Own (proc_of (record { lead = lead_of d; body = alts_of d }))))
+closed_now q d e = ap (λ m. put q (state_at m d)) e
+
+-- ---- a token outside of processes
+hear_outside : (ns : List (List ℕ)) (s : Spot) (x : Token) → (IsWithin s → ⊥) → hear ns s x ≡ ns
+hear_outside ns (InProcess q s) x h = absurd (h tt)
+hear_outside ns s x h = refl
+
+none_open : (ss : List Sentence) (t : spot_type.Spot) → open_brackets_at (spot_of ss t) ≡ 0
+none_open ss (spot.Process q) = refl
+none_open ss t = refl
+
+module _ (s : Spot) (from : ℕ) (bs : List ℕ) (f : Found) (x : Token)
+    (scanned : scan Between from (drop from bs) ≡ with_found f bs) (same : x ≡ token_of f.token (slice_range bs f.at f.next)) (outside : IsWithin s → ⊥) where
+  stepped_so : (number : List ℕ → ℕ) (p : ℕ) → p ≡ f.at → (o : Option Spot) → step number s x (Some p) ≡ o → step number s (token_of f.token (slice_range bs f.at f.next)) (Some f.at) ≡ o
+  stepped_so number p a o e = subst (λ y. step number s y (Some f.at) ≡ o) same (subst (λ v. step number s x (Some v) ≡ o) a e)
+
+  pub spot_refused : (p : ℕ) → p ≡ f.at → ((number : List ℕ → ℕ) → step number s x (Some p) ≡ None) → (ns : List (List ℕ)) → answer_from ns s from bs ≡ Err (Unexpected p)
+  spot_refused p a e ns = refused_here ns ns s from bs f scanned (sym (hear_outside ns s (token_of f.token (slice_range bs f.at f.next)) outside)) (stepped_so (number_in ns) p a None (e (number_in ns))) ∙ ap (λ v. Err (Unexpected v)) (sym a)
+
+  pub spot_passed : (p : ℕ) → p ≡ f.at → (ss : List Sentence) (t : spot_type.Spot) → ((number : List ℕ → ℕ) → step number s x (Some p) ≡ Some (spot_of ss t)) → (ns : List (List ℕ)) → answer_from ns s from bs ≡ answer_behind (is_end f.token) ns (spot_of ss t) f.next bs
+  spot_passed p a ss t e ns = passed_here ns ns s (spot_of ss t) from bs f scanned (sym (hear_outside ns s (token_of f.token (slice_range bs f.at f.next)) outside)) (stepped_so (number_in ns) p a (Some (spot_of ss t)) (e (number_in ns))) (ap (λ n. nat_lt 64 n) (none_open ss t))
+
+pub not_within : (ss : List Sentence) (t : spot_type.Spot) → ((q : code_partly.Partly) → t ≡ spot.Process q → ⊥) → IsWithin (spot_of ss t) → ⊥
+not_within ss (spot.Process q) h w = h q refl
+not_within ss t h w = w
+
+-- ---- at most one name more
+more_by : (ns : List (List ℕ)) (n : List ℕ) (b : Bool) → length (if b then ns else ns ++ n ∷ []) ≤ length ns + 1
+more_by ns n true = omega arith
+more_by ns n false = omega (arith, length-append ns (n ∷ []))
+
+pub heard_more : (ns : List (List ℕ)) (o : Option (List ℕ)) → length (with_heard ns o) ≤ length ns + 1
+heard_more ns None = omega arith
+heard_more ns (Some n) = more_by ns n (list_any (bytes_eq n) ns)
+

@@ -10,10 +10,10 @@ use Rattle.cmd_text.specs.File.{Placed}
 use Rattle.cmd_text.specs.Names.{number_in}
 use Rattle.cmd_text.specs.Text.{IsWord, IsToken, Begins}
 use Rattle.cmd_tree.specs.declared.tree.Mark.{Mark}
-use Rattle.cmd_text.specs.Machine.{Ctx, InBody, InLead, Inside, State, AtForm, AtBody, AtItem, AtMark, AfterItem, AtBurst, AtBurstMark, AfterBurst, AtSecond, Closed, add, add_among, widen, lone, close_round, close_square, next_choice, end_lead}
-use Rattle.cmd_text.specs.Machine as machine
-use Rattle.cmd_text.specs.Reader.{Partly, Spot, AtSentence, AtName, AtDefine, AtFactor, InProcess, AfterName, AtFresh, AtSlash, AtWas, AfterPair, AfterFactor, AtEnd, Finished, put, after_sentence, with_sentence, step}
-use Rattle.cmd_text.specs.Reading.{Standing, go, reads, begin}
+use Rattle.cmd_text.specs.Mirror.Machine.{Ctx, InBody, InLead, Inside, State, AtForm, AtBody, AtItem, AtMark, AfterItem, AtBurst, AtBurstMark, AfterBurst, AtSecond, Closed, add, add_among, widen, lone, close_round, close_square, next_choice, end_lead}
+use Rattle.cmd_text.specs.Mirror.Machine as machine
+use Rattle.cmd_text.specs.Mirror.Reader.{Partly, Spot, AtSentence, AtName, AtDefine, AtFactor, InProcess, AfterName, AtFresh, AtSlash, AtWas, AfterPair, AfterFactor, AtEnd, Finished, put, after_sentence, with_sentence, step}
+use Rattle.cmd_text.specs.Mirror.Reading.{Standing, go, reads, begin}
 use Rattle.cmd_text.proofs.FileTaken.{nothing, same_some}
 use Rattle.cmd_text.proofs.ReaderSteps.{Gone, gone, at_some, read_text, text_read}
 

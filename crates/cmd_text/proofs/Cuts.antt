@@ -9,7 +9,7 @@ use Rattle.std.proofs.Math.Seq.{drop-cons, take-suc}
 use Rattle.cmd_tree.specs.Limits.{is_tail}
 use Rattle.cmd_text.specs.declared.token.Token.{Token}
 use Rattle.cmd_text.specs.declared.token.Token.TheVariants as code
-use Rattle.cmd_text.specs.ScanView.{token_of, after, IsPlain}
+use Rattle.cmd_text.specs.Mirror.ScanView.{token_of, after, IsPlain}
 use Rattle.cmd_text.specs.Token.{Define, Bar, Par, End, Let, Main, Pref, Word}
 use Rattle.cmd_text.specs.Fault.{BadByte, BadToken, NameTooLong}
 use Rattle.cmd_text.specs.Scan.{Scanned, then_token, faulty, end_at, is_comment, word, then_word, Between, InComment, InWord, AfterColon, AfterBar, start, scan}

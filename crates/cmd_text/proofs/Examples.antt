@@ -6,9 +6,9 @@ use Rattle.cmd_tree.specs.declared.tree.Proc.{Proc}
 use Rattle.cmd_tree.specs.Tree.{TItem, TSeq, TBurst, Done, Then}
 use Rattle.cmd_text.specs.declared.file.Factor.TheVariants.{Own, Named}
 use Rattle.cmd_text.specs.Fault.{Fault, BadByte, BadToken, Unexpected, NameTooLong, TooDeep}
-use Rattle.cmd_text.specs.Machine.{mark_of}
-use Rattle.cmd_text.specs.Reader.{rename_of}
-use Rattle.cmd_text.specs.Reading.{Standing, answer}
+use Rattle.cmd_text.specs.Mirror.Machine.{mark_of}
+use Rattle.cmd_text.specs.Mirror.Reader.{rename_of}
+use Rattle.cmd_text.specs.Mirror.Reading.{Standing, answer}
 use Rattle.cmd_text.proofs.ReadExactly.{ended_well}
 
 abbrev Answer : Type 0

@@ -11,9 +11,9 @@ use Rattle.cmd_text.specs.Token.{Token, Let, Main, Pref, Define, Dot, Par, LeftS
 use Rattle.cmd_text.specs.Process.{process}
 use Rattle.cmd_text.specs.File.{Use, Placed, Hint, any, sited, IsAt, Match, Piece, Process, Call, factor_of, IsPiece, sentence_of, Definition, head_of, defined, Text, sentences_of, IsDefinition, IsWhole, plain, pair, more_pairs, pairs, piece, more_pieces, weave, headed, sentence, definitions, file}
 use Rattle.cmd_text.specs.Text.{tokens}
-use Rattle.cmd_text.specs.Machine.{State, AtForm, AtBody, AtItem, AtMark, AfterItem, AtBurst, AtBurstMark, AfterBurst, AtSecond, Closed, heard}
-use Rattle.cmd_text.specs.Machine as machine
-use Rattle.cmd_text.specs.Reader.{Partly, Spot, AtSentence, AtName, AtDefine, AtFactor, InProcess, AfterName, AtFresh, AtSlash, AtWas, AfterPair, AfterFactor, AtEnd, Finished, with_factor, rename_of, put, ended, step}
+use Rattle.cmd_text.specs.Mirror.Machine.{State, AtForm, AtBody, AtItem, AtMark, AfterItem, AtBurst, AtBurstMark, AfterBurst, AtSecond, Closed, heard}
+use Rattle.cmd_text.specs.Mirror.Machine as machine
+use Rattle.cmd_text.specs.Mirror.Reader.{Partly, Spot, AtSentence, AtName, AtDefine, AtFactor, InProcess, AfterName, AtFresh, AtSlash, AtWas, AfterPair, AfterFactor, AtEnd, Finished, with_factor, rename_of, put, ended, step}
 use Rattle.cmd_text.proofs.ProcessSound.{Good, before, Step, Knows, one_step}
 
 pub push-assoc : {A : Type 0} → (xs : List A) (x : A) (rs : List A) → (xs ++ x ∷ []) ++ rs ≡ xs ++ x ∷ rs

@@ -8,9 +8,9 @@ use Rattle.cmd_text.specs.declared.file.Rename.{Rename}
 use Rattle.cmd_text.specs.Token.{Token, Main, Define, Dot, Par, RightSq, Comma, Slash, End, Word}
 use Rattle.cmd_text.specs.Process.{process, Written, proc_of}
 use Rattle.cmd_text.specs.File.{Use, Placed, Hint, any, IsAt, Match, Piece, Process, Call, factor_of, IsPiece, Head, Definition, head_of, defined, Text, sentences_of, IsWeave, IsDefinition, IsWhole, plain, more_pairs, pairs, piece, more_pieces, weave, sentence, definitions, file}
-use Rattle.cmd_text.specs.Machine.{State, AtForm, AtBody, AtItem, AtMark, AfterItem, AtBurst, AtBurstMark, AfterBurst, AtSecond, Closed}
-use Rattle.cmd_text.specs.Machine as machine
-use Rattle.cmd_text.specs.Reader.{Partly, Spot, AtSentence, AtName, AtDefine, AtFactor, InProcess, AfterName, AtFresh, AtSlash, AtWas, AfterPair, AfterFactor, AtEnd, Finished, with_factor, with_rename, put, ended, step}
+use Rattle.cmd_text.specs.Mirror.Machine.{State, AtForm, AtBody, AtItem, AtMark, AfterItem, AtBurst, AtBurstMark, AfterBurst, AtSecond, Closed}
+use Rattle.cmd_text.specs.Mirror.Machine as machine
+use Rattle.cmd_text.specs.Mirror.Reader.{Partly, Spot, AtSentence, AtName, AtDefine, AtFactor, InProcess, AfterName, AtFresh, AtSlash, AtWas, AfterPair, AfterFactor, AtEnd, Finished, with_factor, with_rename, put, ended, step}
 use Rattle.cmd_text.proofs.ProcessTaken.{run, process_taken}
 use Rattle.cmd_text.proofs.FileSound.{push-assoc, cat-nil}
 

@@ -18,10 +18,11 @@ pub mod MainRead
 pub mod Places
 pub mod Examples
 pub mod Numbers
+pub mod StateSteps
+pub mod NameTables
 pub mod Refusals
 pub mod Depths
 pub mod RefusedSpots
-pub mod StateSteps
 pub mod SpotSteps
 pub mod Advance
 pub mod WholeFile

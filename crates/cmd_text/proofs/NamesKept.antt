@@ -11,7 +11,7 @@ use Rattle.cmd_text.specs.Token.{Token, Let, Ask, Bang, Word}
 use Rattle.cmd_text.specs.File.{Placed}
 use Rattle.cmd_text.specs.Names.{name_in, number_in, with_word, noted, names_after, IsProper}
 use Rattle.cmd_text.specs.Text.{tokens, IsWord, IsToken}
-use Rattle.cmd_text.specs.Reading.{with_heard}
+use Rattle.cmd_text.specs.Mirror.Reading.{with_heard}
 use Rattle.cmd_text.proofs.FileSound.{cat-assoc, cat-nil}
 
 pub true_false : {P : Type 0} → true ≡ false → P

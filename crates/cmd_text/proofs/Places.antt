@@ -1,15 +1,13 @@
 -- Lists that grow at the end, read vs trees.
-use Rattle.std.proofs.Common.{◌≡◌, List, [], ◌∷◌, ◌++◌, Option, Some, None, length, refl, sym, ◌∙◌, ap, arith}
+use Rattle.std.proofs.Common.{◌≡◌, Bool, true, false, List, [], ◌∷◌, ◌++◌, Option, Some, None, length, refl, sym, ◌∙◌, ap, arith}
 use Rattle.cmd_tree.specs.declared.tree.Item.{Item}
 use Rattle.cmd_tree.specs.declared.tree.Item.TheVariants.{Alt, Burst}
 use Rattle.cmd_tree.specs.declared.tree.Mark.{Mark}
 use Rattle.cmd_tree.specs.Tree.{TItem, TSeq, TSeqs, TAlt, TBurst, Or, Stop, Then, Done}
 use Rattle.cmd_tree.specs.View.{seqs_of, seq_of, item_of}
-use Rattle.cmd_text.specs.declared.place.Base.{Base}
-use Rattle.cmd_text.specs.declared.place.Base.TheVariants as base
-use Rattle.cmd_text.specs.declared.place.Level.{Level}
-use Rattle.cmd_text.specs.Machine.{Ctx, InBody, InLead, Inside, AtItem, AfterItem, AtSecond, Closed, AtBurst, AtBody, lone, add, add_among, next_choice, close_round, close_square, widen, end_lead}
-use Rattle.cmd_text.specs.ProcessView.{ctx_from, base_of}
+use Rattle.cmd_text.specs.declared.draft.Level.{Level}
+use Rattle.cmd_text.specs.Mirror.Machine.{Ctx, InBody, InLead, Inside, AtItem, AfterItem, AtSecond, Closed, AtBurst, AtBody, lone, add, add_among, next_choice, close_round, close_square, widen, end_lead}
+use Rattle.cmd_text.specs.Mirror.Drafts.{ctx_from, base_of}
 use Rattle.cmd_text.specs.Process.{body_of}
 
 pub items_push : (is : List Item) (i : Item) → seq_of (is ++ i ∷ []) ≡ add (seq_of is) (item_of i)
@@ -62,12 +60,12 @@ close_say b outer ls l vs bs is row e h f g = ap (λ u. close_round u (seqs_of v
     ∙ ap (λ u. Some (AfterItem (ctx_from b ls) (seqs_of l.alts) (add (seq_of l.items) (TAlt u)))) (sym (ap seqs_of f ∙ alts_push vs (seq_of is)))
     ∙ ap (λ u. Some (AfterItem (ctx_from b ls) (seqs_of l.alts) u)) (sym (ap seq_of g ∙ items_push l.items (Alt bs)))
 
-pub close_outside : (b : Base) (ls : List Level) (a : TSeqs) (i : TSeq) → ls ≡ [] → close_round (ctx_from (base_of b) ls) a i ≡ None
-close_outside b ls a i e = ap (λ u. close_round (ctx_from (base_of b) u) a i) e ∙ by b
+pub close_outside : (b : Bool) (o : Option TSeq) (ls : List Level) (a : TSeqs) (i : TSeq) → ls ≡ [] → close_round (ctx_from (base_of b o) ls) a i ≡ None
+close_outside b o ls a i e = ap (λ u. close_round (ctx_from (base_of b o) u) a i) e ∙ by b
   where
-    by : (c : Base) → close_round (base_of c) a i ≡ None
-    by (base.Body l) = refl
-    by base.Lead = refl
+    by : (c : Bool) → close_round (base_of c o) a i ≡ None
+    by false = refl
+    by true = refl
 
 close_empty_by : (k : Ctx) (i : TSeq) → close_round k Stop i ≡ None
 close_empty_by InLead i = refl
@@ -97,15 +95,21 @@ square_in_lead ls a i e = ap (λ u. close_square (ctx_from InLead u) a i) e
 
 pub ruleset places = (items_push, alts_push, outer_push)
 
+pub ruleset choices = (choice_none, choice_say)
+
+pub ruleset closes = (close_outside, close_empty, close_say)
+
+pub ruleset squares = (square_deep, square_in_lead, square_none, square_lead)
+
 pub ruleset leads = (not_lead, body_not, lead_is)
 
 -- ---- a bracket turns out to hold a burst
-pub widen_outside : (b : Base) (ls : List Level) (a : TSeqs) (m : Option Mark) → ls ≡ [] → widen (ctx_from (base_of b) ls) a m ≡ None
-widen_outside b ls a m e = ap (λ u. widen (ctx_from (base_of b) u) a m) e ∙ by b a m
+pub widen_outside : (b : Bool) (l : Option TSeq) (ls : List Level) (a : TSeqs) (m : Option Mark) → ls ≡ [] → widen (ctx_from (base_of b l) ls) a m ≡ None
+widen_outside b l ls a m e = ap (λ u. widen (ctx_from (base_of b l) u) a m) e ∙ by b a m
   where
-    by : (c : Base) (x : TSeqs) (o : Option Mark) → widen (base_of c) x o ≡ None
-    by (base.Body l) x o = refl
-    by base.Lead x o = refl
+    by : (c : Bool) (x : TSeqs) (o : Option Mark) → widen (base_of c l) x o ≡ None
+    by false x o = refl
+    by true x o = refl
 
 widen_or : (k : Ctx) (s : TSeq) (a : TSeqs) (m : Option Mark) → widen k (Or s a) m ≡ None
 widen_or (Inside k b j) s a m = refl

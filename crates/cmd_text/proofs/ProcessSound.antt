@@ -10,7 +10,7 @@ use Rattle.cmd_tree.specs.Limits.{IsSeq, IsItem, AreSeqs, IsFull, IsPart, count_
 use Rattle.cmd_text.specs.Token.{Token, Semi, Bar, Par, Open, Close, LeftSq, RightSq, Star, Ask, Bang, Word}
 use Rattle.cmd_text.specs.Process.{sign_of, mark, more_marks, seq, more, item, among, more_among, process, IsWritten}
 use Rattle.cmd_text.specs.Fault.{opened_by}
-use Rattle.cmd_text.specs.Machine.{Ctx, InBody, InLead, Inside, State, AtForm, AtBody, AtItem, AtMark, AfterItem, AtBurst, AtBurstMark, AfterBurst, AtSecond, Closed, add, add_among, mark_of, lone, widen, close_round, close_square, next_choice, end_lead, step, heard, depth, depth_in}
+use Rattle.cmd_text.specs.Mirror.Machine.{Ctx, InBody, InLead, Inside, State, AtForm, AtBody, AtItem, AtMark, AfterItem, AtBurst, AtBurstMark, AfterBurst, AtSecond, Closed, add, add_among, mark_of, lone, widen, close_round, close_square, next_choice, end_lead, step, heard, open_brackets, open_brackets_in}
 
 -- ---- what is well formed so far
 abbrev pub IsLeadAlone : Ctx → TSeqs → Type 0
@@ -258,29 +258,29 @@ module _ (name : ℕ → List ℕ) where
 
 -- ---- brackets
 module _ (number : List ℕ → ℕ) where
-  widen_depth : (k : Ctx) (a : TSeqs) (m : Option Mark) → IfSome (widen k a m) (λ t. depth t ≡ depth_in k)
+  widen_depth : (k : Ctx) (a : TSeqs) (m : Option Mark) → IfSome (widen k a m) (λ t. open_brackets t ≡ open_brackets_in k)
   widen_depth (Inside k b j) Stop (Some m) = refl
   widen_depth k a m = tt
 
-  close_depth : (k : Ctx) (a : TSeqs) (i : TSeq) → IfSome (close_round k a i) (λ t. depth t ≡ opened_by (depth_in k) Close)
+  close_depth : (k : Ctx) (a : TSeqs) (i : TSeq) → IfSome (close_round k a i) (λ t. open_brackets t ≡ opened_by (open_brackets_in k) Close)
   close_depth (Inside k b j) (Or s ss) i = omega arith
   close_depth k a i = tt
 
-  square_depth : (k : Ctx) (a : TSeqs) (i : TSeq) → IfSome (close_square k a i) (λ t. depth t ≡ depth_in k)
+  square_depth : (k : Ctx) (a : TSeqs) (i : TSeq) → IfSome (close_square k a i) (λ t. open_brackets t ≡ open_brackets_in k)
   square_depth (InBody None) a i = refl
   square_depth (InBody (Some l)) a i = refl
   square_depth k a i = tt
 
-  choice_depth : (k : Ctx) (a : TSeqs) (i : TSeq) → IfSome (next_choice k a i) (λ t. depth t ≡ depth_in k)
+  choice_depth : (k : Ctx) (a : TSeqs) (i : TSeq) → IfSome (next_choice k a i) (λ t. open_brackets t ≡ open_brackets_in k)
   choice_depth InLead a i = tt
   choice_depth (InBody l) a i = refl
   choice_depth (Inside k b j) a i = refl
 
-  lead_depth : (k : Ctx) (i : TSeq) → IfSome (end_lead k i) (λ t. depth t ≡ depth_in k)
+  lead_depth : (k : Ctx) (i : TSeq) → IfSome (end_lead k i) (λ t. open_brackets t ≡ open_brackets_in k)
   lead_depth InLead (Then x i) = refl
   lead_depth k i = tt
 
-  pub depth_step : (s : State) (x : Token) → IfSome (step number s x) (λ t. depth t ≡ opened_by (depth s) x)
+  pub depth_step : (s : State) (x : Token) → IfSome (step number s x) (λ t. open_brackets t ≡ opened_by (open_brackets s) x)
   depth_step AtForm Star = refl
   depth_step AtForm LeftSq = refl
   depth_step AtForm x = tt

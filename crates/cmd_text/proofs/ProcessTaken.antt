@@ -8,7 +8,7 @@ use Rattle.cmd_tree.specs.Tree.{TItem, TSeq, TSeqs, TBurst, TAlt, Stop, Or, Done
 use Rattle.cmd_tree.specs.Limits.{IsSeq, IsItem, AreSeqs, IsFull, IsPart, count_of}
 use Rattle.cmd_text.specs.Token.{Token, Semi, Bar, Close, LeftSq, RightSq, Star, Word}
 use Rattle.cmd_text.specs.Process.{sign_of, more_marks, burst, seq, more, item, among, more_among, process, Written, IsWritten}
-use Rattle.cmd_text.specs.Machine.{Ctx, InBody, InLead, Inside, State, AtForm, AtItem, AfterItem, AtBurst, AfterBurst, AtSecond, Closed, add, add_among, mark_of, next_choice, step}
+use Rattle.cmd_text.specs.Mirror.Machine.{Ctx, InBody, InLead, Inside, State, AtForm, AtItem, AfterItem, AtBurst, AfterBurst, AtSecond, Closed, add, add_among, mark_of, next_choice, step}
 
 -- ---- trees by adding at the end
 abbrev pub join : TSeq → TSeq → TSeq

@@ -12,10 +12,10 @@ use Rattle.cmd_text.specs.File.{Placed, Match, file}
 use Rattle.cmd_text.specs.Names.{name_in, number_in, with_word, noted, names_after}
 use Rattle.cmd_text.specs.Text.{tokens, IsToken, IsText}
 use Rattle.cmd_text.specs.Fault.{opened_by}
-use Rattle.cmd_text.specs.Machine.{Ctx, InBody, InLead, Inside, State, AtForm, AtBody, AtItem, AtMark, AfterItem, AtBurst, AtBurstMark, AfterBurst, AtSecond, Closed, add, mark_of, heard, lone, widen, close_round, close_square, next_choice, end_lead}
-use Rattle.cmd_text.specs.Machine as machine
-use Rattle.cmd_text.specs.Reader.{Partly, Spot, AtSentence, AtName, AtDefine, AtFactor, InProcess, AfterName, AtFresh, AtSlash, AtWas, AfterPair, AfterFactor, AtEnd, Finished, put, after_sentence, with_sentence, step, depth}
-use Rattle.cmd_text.specs.Reading.{Standing, with_heard, hear, go, reads, begin}
+use Rattle.cmd_text.specs.Mirror.Machine.{Ctx, InBody, InLead, Inside, State, AtForm, AtBody, AtItem, AtMark, AfterItem, AtBurst, AtBurstMark, AfterBurst, AtSecond, Closed, add, mark_of, heard, lone, widen, close_round, close_square, next_choice, end_lead}
+use Rattle.cmd_text.specs.Mirror.Machine as machine
+use Rattle.cmd_text.specs.Mirror.Reader.{Partly, Spot, AtSentence, AtName, AtDefine, AtFactor, InProcess, AfterName, AtFresh, AtSlash, AtWas, AfterPair, AfterFactor, AtEnd, Finished, put, after_sentence, with_sentence, step, open_brackets_at}
+use Rattle.cmd_text.specs.Mirror.Reading.{Standing, with_heard, hear, go, reads, begin}
 use Rattle.cmd_text.proofs.ProcessSound.{Knows, depth_step}
 use Rattle.cmd_text.proofs.FileSound.{Told, KnowsAt, told_step, push-assoc, cat-nil, Whole}
 use Rattle.cmd_text.proofs.FileTaken.{srun, matched, file_taken, nothing, same_some}
@@ -148,19 +148,19 @@ module _ (number : List ℕ → ℕ) where
   hear_step ns (Finished ss) p x r h = tt
 
   -- ---- brackets
-  put_depth : (q : Partly) (s : State) → depth (put q s) ≡ machine.depth s
+  pub put_depth : (q : Partly) (s : State) → open_brackets_at (put q s) ≡ machine.open_brackets s
   put_depth q (Closed w) = refl
   put_depth q s = refl
 
-  process_depth : (q : Partly) (s : State) (x : Token) (o : Option State) → IfSome o (λ t. machine.depth t ≡ opened_by (machine.depth s) x) → IfSome (option_map (put q) o) (λ t. depth t ≡ opened_by (machine.depth s) x)
+  process_depth : (q : Partly) (s : State) (x : Token) (o : Option State) → IfSome o (λ t. machine.open_brackets t ≡ opened_by (machine.open_brackets s) x) → IfSome (option_map (put q) o) (λ t. open_brackets_at t ≡ opened_by (machine.open_brackets s) x)
   process_depth q s x None h = tt
   process_depth q s x (Some t) h = put_depth q t ∙ h
 
-  ended_depth : (n : Option (List ℕ)) (ss : List Sentence) → depth (after_sentence n ss) ≡ 0
+  ended_depth : (n : Option (List ℕ)) (ss : List Sentence) → open_brackets_at (after_sentence n ss) ≡ 0
   ended_depth None ss = refl
   ended_depth (Some n) ss = refl
 
-  pub depth_at : (s : Spot) (x : Token) (r : ℕ) → IfSome (step number s x (Some r)) (λ t. depth t ≡ opened_by (depth s) x)
+  pub depth_at : (s : Spot) (x : Token) (r : ℕ) → IfSome (step number s x (Some r)) (λ t. open_brackets_at t ≡ opened_by (open_brackets_at s) x)
   depth_at (AtSentence ss) Let r = refl
   depth_at (AtSentence ss) Main r = refl
   depth_at (AtSentence ss) x r = tt
@@ -249,8 +249,8 @@ heard_gone st x t p b g =
     let j : Heard (number_in t.names) st.names st.spot p x.tok t.spot = at_some (step (number_in t.names) st.spot x.tok (Some x.at)) t.spot (Heard (number_in t.names) st.names st.spot p x.tok) g.stepped (hear_step (number_in t.names) st.names st.spot p x.tok x.at b) in
     (g.names ∙ j.0, j.1)
 
-pub depth_gone : (st : Standing) (x : Placed) (t : Standing) → go st x ≡ Some t → depth t.spot ≡ opened_by (depth st.spot) x.tok
-depth_gone st x t e = let g : Gone st x t = gone st x t e in at_some (step (number_in t.names) st.spot x.tok (Some x.at)) t.spot (λ u. depth u ≡ opened_by (depth st.spot) x.tok) g.stepped (depth_at (number_in t.names) st.spot x.tok x.at)
+pub depth_gone : (st : Standing) (x : Placed) (t : Standing) → go st x ≡ Some t → open_brackets_at t.spot ≡ opened_by (open_brackets_at st.spot) x.tok
+depth_gone st x t e = let g : Gone st x t = gone st x t e in at_some (step (number_in t.names) st.spot x.tok (Some x.at)) t.spot (λ u. open_brackets_at u ≡ opened_by (open_brackets_at st.spot) x.tok) g.stepped (depth_at (number_in t.names) st.spot x.tok x.at)
 
 names_step : (st : Standing) (x : Placed) (xs : List Placed) (p : Token) (t : Standing) (o : Option Standing) → go st x ≡ o → Behind st.spot p → ((u : Standing) → Behind u.spot x.tok → reads u xs ≡ Some t → t.names ≡ names_after u.names x.tok (tokens xs)) → option_and_then (λ u. reads u xs) o ≡ Some t → t.names ≡ names_after st.names p (tokens (x ∷ xs))
 names_step st x xs p t None e b f h = nothing h

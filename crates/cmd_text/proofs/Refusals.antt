@@ -4,8 +4,9 @@ use Rattle.cmd_tree.specs.declared.tree.Mark.{Mark}
 use Rattle.cmd_tree.specs.Tree.{TSeq, TSeqs}
 use Rattle.cmd_text.specs.declared.token.Token.{Token}
 use Rattle.cmd_text.specs.declared.token.Token.TheVariants as code
-use Rattle.cmd_text.specs.ScanView.{token_of}
-use Rattle.cmd_text.specs.Machine.{Ctx, AtForm, AtBody, AtItem, AtMark, AfterItem, AtBurst, AtBurstMark, AfterBurst, AtSecond, step, heard}
+use Rattle.cmd_text.specs.Token.{End}
+use Rattle.cmd_text.specs.Mirror.ScanView.{token_of}
+use Rattle.cmd_text.specs.Mirror.Machine.{Ctx, State, AtForm, AtBody, AtItem, AtMark, AfterItem, AtBurst, AtBurstMark, AfterBurst, AtSecond, step, heard}
 
 pub form_none : (number : List ℕ → ℕ) (t : Token) (w : List ℕ) → (t ≡ code.Star → ⊥) → (t ≡ code.LeftSq → ⊥) → step number AtForm (token_of t w) ≡ None
 form_none number code.Star w h0 h1 = absurd (h0 refl)
@@ -52,6 +53,11 @@ after_burst_none number k a i ms t w h0 h1 = refl
 pub second_none : (number : List ℕ → ℕ) (l : TSeq) (b : TSeqs) (t : Token) (w : List ℕ) → (t ≡ code.RightSq → ⊥) → step number (AtSecond l b) (token_of t w) ≡ None
 second_none number l b code.RightSq w h0 = absurd (h0 refl)
 second_none number l b t w h0 = refl
+
+-- the end stands in no process
+pub end_refused : (number : List ℕ → ℕ) (s : State) → step number s End ≡ None
+end_refused number AtForm = refl
+end_refused number s = refl
 
 -- ---- and hears no name at them
 pub mark_unheard : (k : Ctx) (a : TSeqs) (i : TSeq) (n : List ℕ) (t : Token) (w : List ℕ) → (t ≡ code.Ask → ⊥) → (t ≡ code.Bang → ⊥) → heard (AtMark k a i n) (token_of t w) ≡ None

@@ -3,9 +3,9 @@ use Rattle.std.proofs.Common.{◌≡◌, ℕ, List, Option, None, refl}
 use Rattle.cmd_text.specs.declared.file.Sentence.{Sentence}
 use Rattle.cmd_text.specs.declared.token.Token.{Token}
 use Rattle.cmd_text.specs.declared.token.Token.TheVariants as code
-use Rattle.cmd_text.specs.ScanView.{token_of}
+use Rattle.cmd_text.specs.Mirror.ScanView.{token_of}
 use Rattle.cmd_text.specs.File.{Head, Use}
-use Rattle.cmd_text.specs.Reader.{Partly, AtSentence, AtName, AtDefine, AtFactor, AfterName, AtFresh, AtSlash, AtWas, AfterPair, AfterFactor, AtEnd, step}
+use Rattle.cmd_text.specs.Mirror.Reader.{Partly, AtSentence, AtName, AtDefine, AtFactor, AfterName, AtFresh, AtSlash, AtWas, AfterPair, AfterFactor, AtEnd, step}
 
 pub sentence_none : (number : List ℕ → ℕ) (ss : List Sentence) (t : Token) (w : List ℕ) (p : Option ℕ) → (t ≡ code.Let → ⊥) → (t ≡ code.Main → ⊥) → step number (AtSentence ss) (token_of t w) p ≡ None
 sentence_none number ss code.Let w p h0 h1 = absurd (h0 refl)

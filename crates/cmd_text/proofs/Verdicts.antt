@@ -8,8 +8,8 @@ use Rattle.std.proofs.lemmas.Bool.Decides.{Decides-ltb}
 use Rattle.cmd_text.specs.File.{Placed}
 use Rattle.cmd_text.specs.Text.{tokens, IsToken, Begins}
 use Rattle.cmd_text.specs.Fault.{Fault, Unexpected, TooDeep, opened_by, opened_after, IsShallow, IsFault, refused, spoilt}
-use Rattle.cmd_text.specs.Reader.{depth}
-use Rattle.cmd_text.specs.Reading.{Standing, go, reads, begin, judge, verdict}
+use Rattle.cmd_text.specs.Mirror.Reader.{open_brackets_at}
+use Rattle.cmd_text.specs.Mirror.Reading.{Standing, go, reads, begin, judge, verdict}
 use Rattle.cmd_text.proofs.FileTaken.{nothing, same_some}
 use Rattle.cmd_text.proofs.FileSound.{cat-nil}
 use Rattle.cmd_text.proofs.ReaderSteps.{depth_gone}
@@ -45,18 +45,18 @@ many_true n h = (Decides-ltb 64 n).1 h
 
 -- ---- an answer that is no fault
 abbrev Fine : Standing → List Placed → Option Fault → Standing → Type 0
-Fine st xs e t = (e ≡ None) × (reads st xs ≡ Some t) × IsShallow (depth st.spot) (tokens xs)
+Fine st xs e t = (e ≡ None) × (reads st xs ≡ Some t) × IsShallow (open_brackets_at st.spot) (tokens xs)
 
-fine_deep : (st : Standing) (x : Placed) (xs : List Placed) (e : Option Fault) (t u : Standing) (b : Bool) → nat_lt 64 (depth u.spot) ≡ b → go st x ≡ Some u → (verdict u xs e ≡ Ok t → Fine u xs e t) → (if b then Err (TooDeep x.at) else verdict u xs e) ≡ Ok t → Fine st (x ∷ xs) e t
+fine_deep : (st : Standing) (x : Placed) (xs : List Placed) (e : Option Fault) (t u : Standing) (b : Bool) → nat_lt 64 (open_brackets_at u.spot) ≡ b → go st x ≡ Some u → (verdict u xs e ≡ Ok t → Fine u xs e t) → (if b then Err (TooDeep x.at) else verdict u xs e) ≡ Ok t → Fine st (x ∷ xs) e t
 fine_deep st x xs e t u true c g f h = ok_err (sym h)
 fine_deep st x xs e t u false c g f h =
-    let d : depth u.spot ≡ opened_by (depth st.spot) x.tok = depth_gone st x u g in
+    let d : open_brackets_at u.spot ≡ opened_by (open_brackets_at st.spot) x.tok = depth_gone st x u g in
     let k : Fine u xs e t = f h in
-    (k.0, ap (λ o. option_and_then (λ v. reads v xs) o) g ∙ k.1, subst (λ n. (n ≤ 64) × IsShallow n (tokens xs)) d (few (depth u.spot) c, k.2))
+    (k.0, ap (λ o. option_and_then (λ v. reads v xs) o) g ∙ k.1, subst (λ n. (n ≤ 64) × IsShallow n (tokens xs)) d (few (open_brackets_at u.spot) c, k.2))
 
 fine_step : (st : Standing) (x : Placed) (xs : List Placed) (e : Option Fault) (t : Standing) (o : Option Standing) → go st x ≡ o → ((u : Standing) → verdict u xs e ≡ Ok t → Fine u xs e t) → judge x o (λ u. verdict u xs e) ≡ Ok t → Fine st (x ∷ xs) e t
 fine_step st x xs e t None g f h = ok_err (sym h)
-fine_step st x xs e t (Some u) g f h = fine_deep st x xs e t u (nat_lt 64 (depth u.spot)) refl g (f u) h
+fine_step st x xs e t (Some u) g f h = fine_deep st x xs e t u (nat_lt 64 (open_brackets_at u.spot)) refl g (f u) h
 
 pub fine : (xs : List Placed) (st : Standing) (e : Option Fault) (t : Standing) → verdict st xs e ≡ Ok t → Fine st xs e t
 fine [] st None t h = (refl, ap Some (same_ok h), tt)
@@ -65,21 +65,21 @@ fine (x ∷ xs) st e t h = fine_step st x xs e t (go st x) refl (λ u k. fine xs
 
 -- ---- the first fault
 pub data Stop (st : Standing) (xs : List Placed) (e : Option Fault) (f : Fault) : Type 0 where
-  stop : (before : List Placed) (x : Placed) (rest : List Placed) (t : Standing) → xs ≡ before ++ x ∷ rest → reads st before ≡ Some t → IsShallow (depth st.spot) (tokens before)
-      → ((go t x ≡ None) × (f ≡ Unexpected x.at)) ⊎ ((u : Standing) × (go t x ≡ Some u) × (64 < depth u.spot) × (f ≡ TooDeep x.at)) → Stop st xs e f
-  worn : (t : Standing) → reads st xs ≡ Some t → IsShallow (depth st.spot) (tokens xs) → e ≡ Some f → Stop st xs e f
+  stop : (before : List Placed) (x : Placed) (rest : List Placed) (t : Standing) → xs ≡ before ++ x ∷ rest → reads st before ≡ Some t → IsShallow (open_brackets_at st.spot) (tokens before)
+      → ((go t x ≡ None) × (f ≡ Unexpected x.at)) ⊎ ((u : Standing) × (go t x ≡ Some u) × (64 < open_brackets_at u.spot) × (f ≡ TooDeep x.at)) → Stop st xs e f
+  worn : (t : Standing) → reads st xs ≡ Some t → IsShallow (open_brackets_at st.spot) (tokens xs) → e ≡ Some f → Stop st xs e f
 
-stop_more : (st : Standing) (x : Placed) (xs : List Placed) (e : Option Fault) (f : Fault) (u : Standing) → go st x ≡ Some u → depth u.spot ≤ 64 → Stop u xs e f → Stop st (x ∷ xs) e f
+stop_more : (st : Standing) (x : Placed) (xs : List Placed) (e : Option Fault) (f : Fault) (u : Standing) → go st x ≡ Some u → open_brackets_at u.spot ≤ 64 → Stop u xs e f → Stop st (x ∷ xs) e f
 stop_more st x xs e f u g l (stop before y rest t s r h k) = stop (x ∷ before) y rest t (ap (λ v. x ∷ v) s) (ap (λ o. option_and_then (λ v. reads v before) o) g ∙ r) (subst (λ n. (n ≤ 64) × IsShallow n (tokens before)) (depth_gone st x u g) (l, h)) k
 stop_more st x xs e f u g l (worn t r h k) = worn t (ap (λ o. option_and_then (λ v. reads v xs) o) g ∙ r) (subst (λ n. (n ≤ 64) × IsShallow n (tokens xs)) (depth_gone st x u g) (l, h)) k
 
-stop_deep : (st : Standing) (x : Placed) (xs : List Placed) (e : Option Fault) (f : Fault) (u : Standing) (b : Bool) → nat_lt 64 (depth u.spot) ≡ b → go st x ≡ Some u → (verdict u xs e ≡ Err f → Stop u xs e f) → (if b then Err (TooDeep x.at) else verdict u xs e) ≡ Err f → Stop st (x ∷ xs) e f
-stop_deep st x xs e f u true c g k h = stop [] x xs st refl refl tt (inr (u, g, many (depth u.spot) c, sym (same_err h)))
-stop_deep st x xs e f u false c g k h = stop_more st x xs e f u g (few (depth u.spot) c) (k h)
+stop_deep : (st : Standing) (x : Placed) (xs : List Placed) (e : Option Fault) (f : Fault) (u : Standing) (b : Bool) → nat_lt 64 (open_brackets_at u.spot) ≡ b → go st x ≡ Some u → (verdict u xs e ≡ Err f → Stop u xs e f) → (if b then Err (TooDeep x.at) else verdict u xs e) ≡ Err f → Stop st (x ∷ xs) e f
+stop_deep st x xs e f u true c g k h = stop [] x xs st refl refl tt (inr (u, g, many (open_brackets_at u.spot) c, sym (same_err h)))
+stop_deep st x xs e f u false c g k h = stop_more st x xs e f u g (few (open_brackets_at u.spot) c) (k h)
 
 stop_step : (st : Standing) (x : Placed) (xs : List Placed) (e : Option Fault) (f : Fault) (o : Option Standing) → go st x ≡ o → ((u : Standing) → verdict u xs e ≡ Err f → Stop u xs e f) → judge x o (λ u. verdict u xs e) ≡ Err f → Stop st (x ∷ xs) e f
 stop_step st x xs e f None g k h = stop [] x xs st refl refl tt (inl (g, sym (same_err h)))
-stop_step st x xs e f (Some u) g k h = stop_deep st x xs e f u (nat_lt 64 (depth u.spot)) refl g (k u) h
+stop_step st x xs e f (Some u) g k h = stop_deep st x xs e f u (nat_lt 64 (open_brackets_at u.spot)) refl g (k u) h
 
 pub stops : (xs : List Placed) (st : Standing) (e : Option Fault) (f : Fault) → verdict st xs e ≡ Err f → Stop st xs e f
 stops [] st None f h = ok_err h
@@ -87,37 +87,37 @@ stops [] st (Some g) f h = worn st refl tt (ap Some (same_err h))
 stops (x ∷ xs) st e f h = stop_step st x xs e f (go st x) refl (λ u k. stops xs u e f k) h
 
 -- ---- and back
-pass_step : (st : Standing) (x : Placed) (xs ys : List Placed) (e : Option Fault) (t : Standing) (o : Option Standing) → go st x ≡ o → ((u : Standing) → reads u xs ≡ Some t → IsShallow (depth u.spot) (tokens xs) → verdict u (xs ++ ys) e ≡ verdict t ys e) → option_and_then (λ u. reads u xs) o ≡ Some t → IsShallow (depth st.spot) (tokens (x ∷ xs)) → judge x o (λ u. verdict u (xs ++ ys) e) ≡ verdict t ys e
+pass_step : (st : Standing) (x : Placed) (xs ys : List Placed) (e : Option Fault) (t : Standing) (o : Option Standing) → go st x ≡ o → ((u : Standing) → reads u xs ≡ Some t → IsShallow (open_brackets_at u.spot) (tokens xs) → verdict u (xs ++ ys) e ≡ verdict t ys e) → option_and_then (λ u. reads u xs) o ≡ Some t → IsShallow (open_brackets_at st.spot) (tokens (x ∷ xs)) → judge x o (λ u. verdict u (xs ++ ys) e) ≡ verdict t ys e
 pass_step st x xs ys e t None g f h l = nothing h
 pass_step st x xs ys e t (Some u) g f h l =
-    let k : (depth u.spot ≤ 64) × IsShallow (depth u.spot) (tokens xs) = subst (λ n. (n ≤ 64) × IsShallow n (tokens xs)) (sym (depth_gone st x u g)) l in
-    ap (λ b. if b then Err (TooDeep x.at) else verdict u (xs ++ ys) e) (few_false (depth u.spot) k.0) ∙ f u h k.1
+    let k : (open_brackets_at u.spot ≤ 64) × IsShallow (open_brackets_at u.spot) (tokens xs) = subst (λ n. (n ≤ 64) × IsShallow n (tokens xs)) (sym (depth_gone st x u g)) l in
+    ap (λ b. if b then Err (TooDeep x.at) else verdict u (xs ++ ys) e) (few_false (open_brackets_at u.spot) k.0) ∙ f u h k.1
 
-pub pass : (xs ys : List Placed) (st : Standing) (e : Option Fault) (t : Standing) → reads st xs ≡ Some t → IsShallow (depth st.spot) (tokens xs) → verdict st (xs ++ ys) e ≡ verdict t ys e
+pub pass : (xs ys : List Placed) (st : Standing) (e : Option Fault) (t : Standing) → reads st xs ≡ Some t → IsShallow (open_brackets_at st.spot) (tokens xs) → verdict st (xs ++ ys) e ≡ verdict t ys e
 pass [] ys st e t h l = ap (λ u. verdict u ys e) (same_some h)
 pass (x ∷ xs) ys st e t h l = pass_step st x xs ys e t (go st x) refl (λ u g k. pass xs ys u e t g k) h l
 
-pass_all : (xs : List Placed) (st : Standing) (e : Option Fault) (t : Standing) → reads st xs ≡ Some t → IsShallow (depth st.spot) (tokens xs) → verdict st xs e ≡ verdict t [] e
+pass_all : (xs : List Placed) (st : Standing) (e : Option Fault) (t : Standing) → reads st xs ≡ Some t → IsShallow (open_brackets_at st.spot) (tokens xs) → verdict st xs e ≡ verdict t [] e
 pass_all xs st e t h l = ap (λ v. verdict st v e) (sym (cat-nil xs)) ∙ pass xs [] st e t h l
 
 pub fine_back : (xs : List Placed) (st : Standing) (e : Option Fault) (t : Standing) → Fine st xs e t → verdict st xs e ≡ Ok t
 fine_back xs st e t h = pass_all xs st e t h.1 h.2 ∙ ap (λ v. verdict t [] v) h.0
 
-halt : (t : Standing) (x : Placed) (rest : List Placed) (e : Option Fault) (f : Fault) → ((go t x ≡ None) × (f ≡ Unexpected x.at)) ⊎ ((u : Standing) × (go t x ≡ Some u) × (64 < depth u.spot) × (f ≡ TooDeep x.at)) → verdict t (x ∷ rest) e ≡ Err f
+halt : (t : Standing) (x : Placed) (rest : List Placed) (e : Option Fault) (f : Fault) → ((go t x ≡ None) × (f ≡ Unexpected x.at)) ⊎ ((u : Standing) × (go t x ≡ Some u) × (64 < open_brackets_at u.spot) × (f ≡ TooDeep x.at)) → verdict t (x ∷ rest) e ≡ Err f
 halt t x rest e f (inl (g, k)) = ap (λ o. judge x o (λ u. verdict u rest e)) g ∙ ap (λ v. Err v) (sym k)
-halt t x rest e f (inr (u, g, l, k)) = ap (λ o. judge x o (λ u. verdict u rest e)) g ∙ ap (λ b. if b then Err (TooDeep x.at) else verdict u rest e) (many_true (depth u.spot) l) ∙ ap (λ v. Err v) (sym k)
+halt t x rest e f (inr (u, g, l, k)) = ap (λ o. judge x o (λ u. verdict u rest e)) g ∙ ap (λ b. if b then Err (TooDeep x.at) else verdict u rest e) (many_true (open_brackets_at u.spot) l) ∙ ap (λ v. Err v) (sym k)
 
 pub stops_back : (xs : List Placed) (st : Standing) (e : Option Fault) (f : Fault) → Stop st xs e f → verdict st xs e ≡ Err f
 stops_back xs st e f (stop before x rest t s r l k) = ap (λ v. verdict st v e) s ∙ pass before (x ∷ rest) st e t r l ∙ halt t x rest e f k
 stops_back xs st e f (worn t r l k) = pass_all xs st e t r l ∙ ap (λ v. verdict t [] v) k
 
 -- ---- brackets of what is read
-open_by : (st : Standing) (x : Placed) (xs : List Placed) (t : Standing) (o : Option Standing) → go st x ≡ o → ((u : Standing) → reads u xs ≡ Some t → depth t.spot ≡ opened_after (depth u.spot) (tokens xs)) → option_and_then (λ u. reads u xs) o ≡ Some t → depth t.spot ≡ opened_after (opened_by (depth st.spot) x.tok) (tokens xs)
+open_by : (st : Standing) (x : Placed) (xs : List Placed) (t : Standing) (o : Option Standing) → go st x ≡ o → ((u : Standing) → reads u xs ≡ Some t → open_brackets_at t.spot ≡ opened_after (open_brackets_at u.spot) (tokens xs)) → option_and_then (λ u. reads u xs) o ≡ Some t → open_brackets_at t.spot ≡ opened_after (opened_by (open_brackets_at st.spot) x.tok) (tokens xs)
 open_by st x xs t None g f h = nothing h
 open_by st x xs t (Some u) g f h = f u h ∙ ap (λ n. opened_after n (tokens xs)) (depth_gone st x u g)
 
-open_read : (xs : List Placed) (st t : Standing) → reads st xs ≡ Some t → depth t.spot ≡ opened_after (depth st.spot) (tokens xs)
-open_read [] st t h = ap (λ u. depth u.spot) (sym (same_some h))
+open_read : (xs : List Placed) (st t : Standing) → reads st xs ≡ Some t → open_brackets_at t.spot ≡ opened_after (open_brackets_at st.spot) (tokens xs)
+open_read [] st t h = ap (λ u. open_brackets_at u.spot) (sym (same_some h))
 open_read (x ∷ xs) st t h = open_by st x xs t (go st x) refl (λ u g. open_read xs u t g) h
 
 -- ---- the fault
@@ -142,7 +142,7 @@ not_begun xs x t a r g b = let s : (u : Standing) × (reads begin (xs ++ x ∷ [
 abbrev Kind : List Placed → Placed → Fault → Type 0
 Kind before x f = ((Begins (before ++ x ∷ []) → ⊥) × (f ≡ Unexpected x.at)) ⊎ (Begins (before ++ x ∷ []) × (64 < opened_by (opened_after 0 (tokens before)) x.tok) × (f ≡ TooDeep x.at))
 
-kind_of : (before : List Placed) (x : Placed) (t : Standing) (f : Fault) → AllByRecursion IsToken (before ++ x ∷ []) → reads begin before ≡ Some t → ((go t x ≡ None) × (f ≡ Unexpected x.at)) ⊎ ((u : Standing) × (go t x ≡ Some u) × (64 < depth u.spot) × (f ≡ TooDeep x.at)) → Kind before x f
+kind_of : (before : List Placed) (x : Placed) (t : Standing) (f : Fault) → AllByRecursion IsToken (before ++ x ∷ []) → reads begin before ≡ Some t → ((go t x ≡ None) × (f ≡ Unexpected x.at)) ⊎ ((u : Standing) × (go t x ≡ Some u) × (64 < open_brackets_at u.spot) × (f ≡ TooDeep x.at)) → Kind before x f
 kind_of before x t f a r (inl (g, k)) = inl ((λ b. not_begun before x t a r g b), k)
 kind_of before x t f a r (inr (u, g, l, k)) = inr (stands_begins (before ++ x ∷ []) u (gone_then before x t r ∙ g), subst (λ n. 64 < n) (depth_gone t x u g ∙ ap (λ n. opened_by n x.tok) (open_read before begin t r)) l, k)
 
@@ -156,7 +156,7 @@ unkind_by : (before : List Placed) (x : Placed) (t : Standing) (f : Fault) (o : 
 unkind_by before x t f None g r n = g
 unkind_by before x t f (Some u) g r n = absurd (n (stands_begins (before ++ x ∷ []) u (gone_then before x t r ∙ g)))
 
-unkind : (before : List Placed) (x : Placed) (t : Standing) (f : Fault) → AllByRecursion IsToken (before ++ x ∷ []) → reads begin before ≡ Some t → Kind before x f → ((go t x ≡ None) × (f ≡ Unexpected x.at)) ⊎ ((u : Standing) × (go t x ≡ Some u) × (64 < depth u.spot) × (f ≡ TooDeep x.at))
+unkind : (before : List Placed) (x : Placed) (t : Standing) (f : Fault) → AllByRecursion IsToken (before ++ x ∷ []) → reads begin before ≡ Some t → Kind before x f → ((go t x ≡ None) × (f ≡ Unexpected x.at)) ⊎ ((u : Standing) × (go t x ≡ Some u) × (64 < open_brackets_at u.spot) × (f ≡ TooDeep x.at))
 unkind before x t f a r (inl (n, k)) = inl (unkind_by before x t f (go t x) refl r n, k)
 unkind before x t f a r (inr (b, l, k)) =
     let s : (u : Standing) × (reads begin (before ++ x ∷ []) ≡ Some u) = begins_stands (before ++ x ∷ []) a b in

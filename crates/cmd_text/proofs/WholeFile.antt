@@ -7,11 +7,11 @@ use Rattle.cmd_text.specs.declared.file.Refusal.TheVariants as told
 use Rattle.cmd_text.specs.declared.spot.Spot as code
 use Rattle.cmd_text.specs.declared.spot.Spot.TheVariants as variant
 use Rattle.cmd_text.specs.Fault.{Fault}
-use Rattle.cmd_text.specs.ScanView.{fault_of}
+use Rattle.cmd_text.specs.Mirror.ScanView.{fault_of}
 use Rattle.cmd_text.specs.Source.{IsTextOfBytes, IsShallowText, IsFaultOfBytes}
-use Rattle.cmd_text.specs.Reader.{AtSentence, Finished}
-use Rattle.cmd_text.specs.Reading.{Standing, answer}
-use Rattle.cmd_text.specs.ReaderView.{spot_of, answer_from}
+use Rattle.cmd_text.specs.Mirror.Reader.{AtSentence, Finished}
+use Rattle.cmd_text.specs.Mirror.Reading.{Standing, answer}
+use Rattle.cmd_text.specs.Mirror.ReaderView.{spot_of, answer_from}
 use Rattle.cmd_text.proofs.ReadExactly.{IsFinished, read_finished, ended_well, read_text_exactly, read_fault_exactly}
 use Rattle.cmd_text.proofs.Verdicts.{Answer, same_ok, same_err, ok_err}
 
@@ -24,7 +24,7 @@ carry (Some f) e h = sym e ∙ h
 
 finished_code : (ss : List Sentence) (s : code.Spot) → IsFinished (spot_of ss s) → spot_of ss s ≡ Finished ss
 finished_code ss variant.Finished h = refl
-finished_code ss (variant.Process q t) h = absurd h
+finished_code ss (variant.Process q) h = absurd h
 finished_code ss s h = absurd h
 
 pub ends_finished : (bytes : List ℕ) (names : List (List ℕ)) (ss : List Sentence) (s : code.Spot) → answer bytes ≡ Ok (record { names = names; spot = spot_of ss s }) → answer bytes ≡ ended_well names ss

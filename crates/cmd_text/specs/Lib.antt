@@ -6,11 +6,6 @@ pub mod Text
 pub mod Fault
 pub mod Scan
 pub mod Source
-pub mod ScanView
-pub mod Machine
-pub mod ProcessView
-pub mod Reader
-pub mod Reading
-pub mod ReaderView
 pub mod Canonical
 pub mod Printed
+pub mod Mirror

@@ -1,6 +1,7 @@
 -- The tokens of a text: each as long as it can be, with the place of its first byte.
 use Rattle.std.specs.Prelude.{ℕ, ◌+◌, Bool, ◌&&◌, ◌||◌, nat_le, nat_lt, nat_eq, List, [], ◌∷◌, ◌++◌, length, codes, Option, Some, None, if◌then◌else◌}
 use Rattle.std.specs.Str.{bytes_eq}
+use Rattle.cmd_tree.specs.declared.limits.TheConstants.{MAX_NAME_BYTES}
 use Rattle.cmd_tree.specs.Limits.{is_letter, is_tail}
 use Rattle.cmd_text.specs.Token.{Token, Let, Main, Pref, Define, Dot, Semi, Bar, Par, Open, Close, LeftSq, RightSq, Star, Ask, Bang, Comma, Slash, End, Word}
 use Rattle.cmd_text.specs.File.{Placed}
@@ -51,7 +52,7 @@ abbrev pub word : List ℕ → Token
 word w = if bytes_eq w (codes "let") then Let else if bytes_eq w (codes "main") then Main else if bytes_eq w (codes "pref") then Pref else Word w
 
 abbrev pub then_word : ℕ → List ℕ → Scanned → Scanned
-then_word at w s = if nat_lt 32 (length w) then faulty (NameTooLong at) else then_token (word w) at s
+then_word at w s = if nat_lt MAX_NAME_BYTES (length w) then faulty (NameTooLong at) else then_token (word w) at s
 
 -- where the scan is: between tokens, in a comment, in a word, behind a `:`, or behind a `|`
 pub data Mode : Type 0 where

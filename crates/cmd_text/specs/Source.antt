@@ -10,7 +10,7 @@ pub record IsTextOfBytes (bytes : List ℕ) (names : List (List ℕ)) (ss : List
   pub well : (scan Between 0 bytes).fault ≡ None
   pub text : IsText (scan Between 0 bytes).toks names ss
 
--- at most 64 round brackets are open at once
+-- no more round brackets are open at once than may be
 abbrev pub IsShallowText : List ℕ → Type 0
 IsShallowText bytes = IsShallow 0 (tokens (scan Between 0 bytes).toks)
 

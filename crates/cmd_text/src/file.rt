@@ -1,11 +1,13 @@
-use cmd_tree::{Name, NameSet, Proc};
+//! A command file as it is written, and why bytes are none.
+use crate::names::NameTable;
+use cmd_tree::{Name, Proc};
 use sqlite_items::Items;
 
 /// A command file as it is written: sentences, of which the last is `main`. `names` are the names of the
 /// symbols of its processes in order of first occurrence, so symbol k has the k-th name.
 #[derive(Drop)]
 pub struct File {
-    pub names: NameSet,
+    pub names: NameTable,
     pub sentences: Items<Sentence>,
 }
 

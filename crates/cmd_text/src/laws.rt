@@ -4,8 +4,8 @@ ghost use Rattle.cmd_tree.specs.declared.tree.Proc.{Proc};
 ghost use Rattle.cmd_tree.specs.Limits.{IsCommand};
 ghost use Rattle.cmd_text.specs.declared.file.Sentence.{Sentence};
 ghost use Rattle.cmd_text.specs.Fault.{Fault};
-ghost use Rattle.cmd_text.specs.Reader.{Finished};
-ghost use Rattle.cmd_text.specs.Reading.{answer};
+ghost use Rattle.cmd_text.specs.Mirror.Reader.{Finished};
+ghost use Rattle.cmd_text.specs.Mirror.Reading.{answer};
 ghost use Rattle.cmd_text.specs.Source.{IsTextOfBytes, IsShallowText, IsFaultOfBytes};
 ghost use Rattle.cmd_text.specs.Printed.{main_text, main_sentence};
 

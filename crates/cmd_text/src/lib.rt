@@ -1,9 +1,11 @@
 //! Command files: their text, the reader and the writer.
 #![tactic(auto)]
 
+mod draft;
 mod file;
 mod laws;
-mod place;
+mod names;
+mod process;
 mod read;
 mod scan;
 mod spot;
@@ -13,5 +15,6 @@ mod writer;
 
 pub use file::{Factor, File, Named, Refusal, Rename, Sentence};
 pub use laws::{canonical_texts_are_read, first_faults_are_told, texts_are_read};
+pub use names::NameTable;
 pub use read::read_file;
 pub use writer::{print_command, print_mark, put_command, write_command};

@@ -1,23 +1,27 @@
-ghost use Rattle.std.specs.Prelude.{◌≡◌, ℕ, ◌+◌, ◌<◌, ◌≤◌, List, [], length, IfOk, IfErr, IsOk, Ok, Err, true, false};
+//! The reader of a file.
+ghost use Rattle.std.specs.Prelude.{◌≡◌, ℕ, ◌<◌, ◌≤◌, List, [], length, IfOk, IfErr, IsOk, Ok, Err, true, false};
 ghost use Rattle.std.specs.Option.{IfSome};
-ghost use Rattle.cmd_text.specs.ScanView.{fault_of};
+ghost use Rattle.cmd_tree.specs.declared.limits.TheConstants.{MAX_FILE_BYTES};
+ghost use Rattle.cmd_text.specs.Mirror.ScanView.{fault_of};
 ghost use Rattle.cmd_text.specs.declared.file.Sentence.{Sentence};
 ghost use Rattle.cmd_text.specs.declared.file.Refusal.TheVariants as told;
 ghost use Rattle.cmd_text.specs.Fault.{Fault};
-ghost use Rattle.cmd_text.specs.Reader.{Finished};
-ghost use Rattle.cmd_text.specs.Reading.{answer};
 ghost use Rattle.cmd_text.specs.Source.{IsTextOfBytes, IsShallowText, IsFaultOfBytes};
-ghost use Rattle.cmd_text.specs.ReaderView.{spot_of, answer_from, answer_behind};
+ghost use Rattle.cmd_text.specs.Mirror.Machine.{AtForm};
+ghost use Rattle.cmd_text.specs.Mirror.Reader.{InProcess, Finished, IsWithin};
+ghost use Rattle.cmd_text.specs.Mirror.Reading.{answer};
+ghost use Rattle.cmd_text.specs.Mirror.ReaderView.{partly_of, spot_of, answer_from, answer_behind, Refuses};
 
-use crate::file::{File, Refusal, Sentence};
-use crate::scan::next_token;
-use crate::spot::{Spot, spot_step, too_deep};
+use crate::file::{Factor, File, Refusal, Sentence};
+use crate::names::NameTable;
+use crate::process::read_process;
+use crate::scan::{lexeme_of, next_token};
+use crate::spot::{Partly, Spot, push_factor, spot_step};
 use crate::token::Token;
-use cmd_tree::NameSet;
 use sqlite_items::Items;
 use std::alloc::Global;
 
-/// The place of the reader behind a token.
+/// The place of the reader behind a token, or behind a process.
 #[derive(Drop)]
 struct Advanced {
     spot: Spot,
@@ -25,39 +29,40 @@ struct Advanced {
     ended: bool,
 }
 
-/// Reads one token.
+/// Reads one token, outside of processes.
 #[tactic(none)]
-fn advance(
+fn pass_token(
     alloc: Global,
     bytes: &[u8],
     from: usize,
     sentences: &mut Items<Sentence>,
     spot: Spot,
-    names: &mut NameSet,
 ) -> Result<Advanced, Refusal>
-    requires few { length bytes.now ≤ 1048576 }
+    requires few { length bytes.now ≤ MAX_FILE_BYTES }
     requires from_in { from ≤ length bytes.now }
-    requires few_names { length names.old ≤ from }
-    ensures ok { IfOk result (λ a. answer_from names.old (spot_of sentences.old spot) from bytes.now ≡ answer_behind a.ended names.new (spot_of sentences.new a.spot) a.next bytes.now) }
+    requires outside { IsWithin (spot_of sentences.old spot) → ⊥ }
+    ensures ok {
+        IfOk result (λ a. (ns : List (List ℕ)) →
+            answer_from ns (spot_of sentences.old spot) from bytes.now
+            ≡ answer_behind a.ended ns (spot_of sentences.new a.spot) a.next bytes.now)
+    }
     ensures range { IfOk result (λ a. a.next ≤ length bytes.now) }
-    ensures past { IfOk result (λ a. a.ended ≡ false → (from < a.next) × (length names.new ≤ a.next)) }
-    ensures err { IfErr result (λ e. IfSome (fault_of e) (λ f. answer_from names.old (spot_of sentences.old spot) from bytes.now ≡ Err f)) }
+    ensures past { IfOk result (λ a. a.ended ≡ false → from < a.next) }
+    ensures err {
+        IfErr result (λ e. (ns : List (List ℕ)) → Refuses ns (spot_of sentences.old spot) from bytes.now e)
+    }
 {
     let found = match next_token(bytes, from) {
         Ok(found) => found,
         Err(refusal) => return Err(refusal),
     };
-    let at = found.at as u32;
-    let word = &bytes[found.at..found.next];
-    let Ok(stepped) = spot_step(alloc, sentences, spot, found.token, word, at, names) else {
+    let lexeme = lexeme_of(bytes, found);
+    let Ok(stepped) = spot_step(alloc, sentences, spot, &lexeme) else {
         return Err(Refusal::NoMemory);
     };
     let Some(spot) = stepped else {
-        return Err(Refusal::Unexpected { at });
+        return Err(Refusal::Unexpected { at: lexeme.at });
     };
-    if too_deep(&spot) {
-        return Err(Refusal::TooDeep { at });
-    }
     let ended = found.token == Token::End;
     Ok(Advanced {
         spot,
@@ -66,15 +71,78 @@ fn advance(
     })
 }
 
+/// Reads a process, which is a factor of the sentence.
+fn pass_process(
+    alloc: Global,
+    bytes: &[u8],
+    from: usize,
+    partly: Partly,
+    names: &mut NameTable,
+) -> Result<Advanced, Refusal>
+    requires few { length bytes.now ≤ MAX_FILE_BYTES }
+    requires from_in { from ≤ length bytes.now }
+    requires few_names { length names.old ≤ from }
+    ensures ok {
+        IfOk result (λ a. (ss : List Sentence) →
+            answer_from names.old (InProcess (partly_of ss partly) AtForm) from bytes.now
+            ≡ answer_behind a.ended names.new (spot_of ss a.spot) a.next bytes.now)
+    }
+    ensures range { IfOk result (λ a. (from < a.next) × (a.next ≤ length bytes.now) × (length names.new ≤ a.next)) }
+    ensures err {
+        IfErr result (λ e. (ss : List Sentence) →
+            Refuses names.old (InProcess (partly_of ss partly) AtForm) from bytes.now e)
+    }
+{
+    let behind = match read_process(alloc, bytes, from, names) {
+        Ok(behind) => behind,
+        Err(refusal) => return Err(refusal),
+    };
+    let Ok(partly) = push_factor(partly, Factor::Own(behind.process)) else {
+        return Err(Refusal::NoMemory);
+    };
+    Ok(Advanced {
+        spot: Spot::AfterFactor(partly),
+        next: behind.next,
+        ended: false,
+    })
+}
+
+/// Reads one token, or a process.
+fn advance(
+    alloc: Global,
+    bytes: &[u8],
+    from: usize,
+    sentences: &mut Items<Sentence>,
+    spot: Spot,
+    names: &mut NameTable,
+) -> Result<Advanced, Refusal>
+    requires few { length bytes.now ≤ MAX_FILE_BYTES }
+    requires from_in { from ≤ length bytes.now }
+    requires few_names { length names.old ≤ from }
+    ensures ok {
+        IfOk result (λ a.
+            answer_from names.old (spot_of sentences.old spot) from bytes.now
+            ≡ answer_behind a.ended names.new (spot_of sentences.new a.spot) a.next bytes.now)
+    }
+    ensures range { IfOk result (λ a. a.next ≤ length bytes.now) }
+    ensures past { IfOk result (λ a. a.ended ≡ false → (from < a.next) × (length names.new ≤ a.next)) }
+    ensures err { IfErr result (Refuses names.old (spot_of sentences.old spot) from bytes.now) }
+{
+    match spot {
+        Spot::Process(partly) => pass_process(alloc, bytes, from, partly, names),
+        spot => pass_token(alloc, bytes, from, sentences, spot),
+    }
+}
+
 /// Reads the tokens of the whole file.
 #[tactic(none)]
 fn read_tokens(
     alloc: Global,
     bytes: &[u8],
     sentences: &mut Items<Sentence>,
-    names: &mut NameSet,
+    names: &mut NameTable,
 ) -> Result<(), Refusal>
-    requires few { length bytes.now ≤ 1048576 }
+    requires few { length bytes.now ≤ MAX_FILE_BYTES }
     requires no_sentences { sentences.old ≡ [] }
     requires no_names { names.old ≡ [] }
     ensures ok { IfOk result (λ _. answer bytes.now ≡ Ok (record { names = names.new; spot = Finished sentences.new })) }
@@ -99,7 +167,7 @@ fn read_tokens(
 /// of memory.
 #[tactic(none)]
 pub fn read_file(alloc: Global, bytes: &[u8]) -> Result<File, Refusal>
-    requires { length bytes.now ≤ 1048576 }
+    requires { length bytes.now ≤ MAX_FILE_BYTES }
     ensures ok { IfOk result (λ f. IsTextOfBytes bytes.now f.names f.sentences × IsShallowText bytes.now) }
     ensures refused { IfErr result (λ e. IfSome (fault_of e) (λ f. IsFaultOfBytes bytes.now f)) }
     ensures same_text { (names : List (List ℕ)) (ss : List Sentence) → IsTextOfBytes bytes.now names ss → IfOk result (λ f. (f.names ≡ names) × (f.sentences ≡ ss)) }
@@ -108,97 +176,9 @@ pub fn read_file(alloc: Global, bytes: &[u8]) -> Result<File, Refusal>
     ensures same_fault { (f : Fault) → IsFaultOfBytes bytes.now f → IfErr result (λ e. IfSome (fault_of e) (λ g. g ≡ f)) }
 {
     let mut sentences = Items::new(alloc);
-    let mut names = NameSet::new(alloc);
+    let mut names = NameTable::new(alloc);
     match read_tokens(alloc, bytes, &mut sentences, &mut names) {
         Ok(()) => Ok(File { names, sentences }),
         Err(refusal) => Err(refusal),
-    }
-}
-
-#[cfg(test)]
-mod tests {
-    use super::*;
-    use std::test::Fail;
-
-    fn refusal(alloc: Global, bytes: &[u8]) -> Option<Refusal> {
-        if bytes.len() > 1_048_576 {
-            return Some(Refusal::NoMemory);
-        }
-        match read_file(alloc, bytes) {
-            Ok(_) => None,
-            Err(refusal) => Some(refusal),
-        }
-    }
-
-    #[test]
-    fn answers_files(rt: HostRuntime) -> Result<(), Fail> {
-        let rows: [(&[u8], Option<Refusal>); 13] = [
-            (b"", Some(Refusal::Unexpected { at: 0 })),
-            (b"main := pref*[a?;", Some(Refusal::Unexpected { at: 17 })),
-            (
-                b"main := pref*[(a?)].",
-                Some(Refusal::Unexpected { at: 17 }),
-            ),
-            (b"# a line\nmain := pref*[a?].\n", None),
-            (b"# a line\x01", Some(Refusal::BadByte { at: 8 })),
-            (b"main : pref", Some(Refusal::BadToken { at: 5 })),
-            (b"main := 9.", Some(Refusal::BadToken { at: 8 })),
-            (
-                b"let aaaaaaaaaabbbbbbbbbbccccccccccddd",
-                Some(Refusal::NameTooLong { at: 4 }),
-            ),
-            (
-                b"let aaaaaaaaaabbbbbbbbbbccccccccccdd",
-                Some(Refusal::Unexpected { at: 36 }),
-            ),
-            (b"main \xc8", Some(Refusal::BadByte { at: 5 })),
-            (
-                b"main := v.\nmain := v.",
-                Some(Refusal::Unexpected { at: 11 }),
-            ),
-            (b"main := v[x/a y/b].", Some(Refusal::Unexpected { at: 14 })),
-            (
-                b"let w := pref[c?;*[(a?||b?);c!]].\nmain := w[x/a,y/b]||w||pref*[a?|b!].",
-                None,
-            ),
-        ];
-        for (bytes, wanted) in rows {
-            assert_eq!(rt; refusal(rt.alloc(), bytes), wanted, "at {}", bytes.len());
-        }
-        Ok(())
-    }
-
-    #[test]
-    fn refuses_the_65th_bracket(rt: HostRuntime) -> Result<(), Fail> {
-        let mut text = Vec::new(rt.alloc());
-        text.extend_from_slice(b"main := pref*[")?;
-        for _ in 0..64 {
-            text.push(b'(')?;
-        }
-        assert_eq!(rt;
-            refusal(rt.alloc(), text.as_slice()),
-            Some(Refusal::Unexpected { at: 78 })
-        );
-        text.push(b'(')?;
-        assert_eq!(rt;
-            refusal(rt.alloc(), text.as_slice()),
-            Some(Refusal::TooDeep { at: 78 })
-        );
-        Ok(())
-    }
-
-    #[test]
-    fn keeps_names_and_sentences(rt: HostRuntime) -> Result<(), Fail> {
-        let text = b"let w := pref*[b?;a!;b?].\nmain := w[x/a,y/b]||w.";
-        let Ok(file) = read_file(rt.alloc(), text.as_slice()) else {
-            return Err(Fail::new("the file is refused"));
-        };
-        assert_eq!(rt; file.names.len(), 2);
-        assert_eq!(rt; file.sentences.len(), 2);
-        let last = file.sentences.get(1).expect(&rt, "two sentences");
-        assert!(rt; last.name.is_none());
-        assert_eq!(rt; last.at, 26);
-        assert_eq!(rt; last.factors.len(), 2);
-        Ok(())
     }
 }

@@ -1,12 +1,12 @@
+//! The scanner: the next token of the bytes from a place on.
 ghost use Rattle.std.specs.Prelude.{◌≡◌, ℕ, ◌+◌, ◌<◌, ◌≤◌, length, drop, slice_range, slice_index, [], ◌∷◌, IfOk, IfErr, IsOk};
+ghost use Rattle.cmd_tree.specs.declared.limits.TheConstants.{MAX_FILE_BYTES};
 ghost use Rattle.cmd_text.specs.Scan.{scan, Between, InComment, InWord, AfterColon, AfterBar, then_word};
-ghost use Rattle.cmd_text.specs.ScanView.{begun, with_found, with_refusal, IsPlainFirst, IsPast};
+ghost use Rattle.cmd_text.specs.Mirror.ScanView.{begun, with_found, with_refusal, token_of, lexeme_token, IsPlainFirst, IsPast};
 
 use crate::file::Refusal;
 use crate::token::{First, Start, Token, comment, starts, tail, word_kind};
-
-/// The longest name.
-const MAX_NAME: usize = 32;
+use cmd_tree::MAX_NAME_BYTES;
 
 /// A token, the place of its first byte, and the place behind it.
 #[derive(Clone, Copy)]
@@ -16,11 +16,19 @@ pub(crate) struct Found {
     pub next: usize,
 }
 
+/// A token with its bytes and the place of the first.
+#[derive(Clone, Copy)]
+pub(crate) struct Lexeme<'a> {
+    pub token: Token,
+    pub word: &'a [u8],
+    pub at: u32,
+}
+
 /// The place behind a comment whose `#` is before `from`.
 #[tactic(auto, using(std::proofs::lemmas::Grind::common_steps, crate::proofs::Cuts::cuts))]
 fn comment_end(bytes: &[u8], from: usize) -> Result<usize, Refusal>
     requires from_in { from ≤ length bytes.now }
-    requires few { length bytes.now ≤ 1048576 }
+    requires few { length bytes.now ≤ MAX_FILE_BYTES }
     ensures ok { IfOk result (λ to. scan InComment from (drop from bytes.now) ≡ scan Between to (drop to bytes.now)) }
     ensures range { IfOk result (λ to. (from ≤ to) × (to ≤ length bytes.now)) }
     ensures err { IfErr result (λ e. scan InComment from (drop from bytes.now) ≡ with_refusal e) }
@@ -55,14 +63,14 @@ fn word_end(bytes: &[u8], at: usize) -> usize
 #[tactic(auto, using(std::proofs::lemmas::Grind::common_steps, crate::proofs::Cuts::cuts))]
 fn word_at(bytes: &[u8], at: usize) -> Result<Found, Refusal>
     requires at_in { at < length bytes.now }
-    requires few { length bytes.now ≤ 1048576 }
+    requires few { length bytes.now ≤ MAX_FILE_BYTES }
     ensures ok { IfOk result (λ f. begun First.Letter at (slice_index bytes.now at) (λ m. scan m (at + 1) (drop (at + 1) bytes.now)) ≡ with_found f bytes.now) }
     ensures range { IfOk result (λ f. (at < f.next) × (f.next ≤ length bytes.now) × (f.at ≡ at)) }
     ensures err { IfErr result (λ e. begun First.Letter at (slice_index bytes.now at) (λ m. scan m (at + 1) (drop (at + 1) bytes.now)) ≡ with_refusal e) }
 {
     let next = word_end(bytes, at);
     let token = word_kind(&bytes[at..next]);
-    if next - at > MAX_NAME {
+    if next - at > MAX_NAME_BYTES {
         return Err(Refusal::NameTooLong { at: at as u32 });
     }
     Ok(Found { token, at, next })
@@ -72,7 +80,7 @@ fn word_at(bytes: &[u8], at: usize) -> Result<Found, Refusal>
 #[tactic(auto, using(std::proofs::lemmas::Grind::common_steps, crate::proofs::Cuts::cuts))]
 fn token_at(bytes: &[u8], at: usize, first: First) -> Result<Found, Refusal>
     requires at_in { at < length bytes.now }
-    requires few { length bytes.now ≤ 1048576 }
+    requires few { length bytes.now ≤ MAX_FILE_BYTES }
     requires plain { IsPlainFirst first }
     ensures ok { IfOk result (λ f. begun first at (slice_index bytes.now at) (λ m. scan m (at + 1) (drop (at + 1) bytes.now)) ≡ with_found f bytes.now) }
     ensures range { IfOk result (λ f. (at < f.next) × (f.next ≤ length bytes.now) × (f.at ≡ at)) }
@@ -95,7 +103,7 @@ fn token_at(bytes: &[u8], at: usize, first: First) -> Result<Found, Refusal>
 #[tactic(auto, using(std::proofs::lemmas::Grind::common_steps, crate::proofs::Cuts::cuts))]
 fn colon_at(bytes: &[u8], at: usize) -> Result<Found, Refusal>
     requires at_in { at < length bytes.now }
-    requires few { length bytes.now ≤ 1048576 }
+    requires few { length bytes.now ≤ MAX_FILE_BYTES }
     ensures ok { IfOk result (λ f. scan (AfterColon at) (at + 1) (drop (at + 1) bytes.now) ≡ with_found f bytes.now) }
     ensures range { IfOk result (λ f. (at < f.next) × (f.next ≤ length bytes.now) × (f.at ≡ at)) }
     ensures err { IfErr result (λ e. scan (AfterColon at) (at + 1) (drop (at + 1) bytes.now) ≡ with_refusal e) }
@@ -140,7 +148,7 @@ fn pipe_at(bytes: &[u8], at: usize) -> Result<Found, Refusal>
 #[tactic(auto, using(std::proofs::lemmas::Grind::common_steps, crate::proofs::Cuts::cuts))]
 pub(crate) fn next_token(bytes: &[u8], from: usize) -> Result<Found, Refusal>
     requires from_in { from ≤ length bytes.now }
-    requires few { length bytes.now ≤ 1048576 }
+    requires few { length bytes.now ≤ MAX_FILE_BYTES }
     ensures ok { IfOk result (λ f. scan Between from (drop from bytes.now) ≡ with_found f bytes.now) }
     ensures range { IfOk result (λ f. (f.at ≤ f.next) × (f.next ≤ length bytes.now) × IsPast f from) }
     ensures err { IfErr result (λ e. scan Between from (drop from bytes.now) ≡ with_refusal e) }
@@ -161,4 +169,19 @@ pub(crate) fn next_token(bytes: &[u8], from: usize) -> Result<Found, Refusal>
         at,
         next: at,
     })
+}
+
+/// The token that was found, with its bytes.
+pub(crate) fn lexeme_of(bytes: &[u8], found: Found) -> Lexeme<'_>
+    requires in_text { (found.at ≤ found.next) × (found.next ≤ length bytes.now) }
+    requires few { length bytes.now ≤ MAX_FILE_BYTES }
+    ensures token { lexeme_token result ≡ token_of found.token (slice_range bytes.now found.at found.next) }
+    ensures kind { result.token ≡ found.token }
+    ensures at { result.at ≡ found.at }
+{
+    Lexeme {
+        token: found.token,
+        word: &bytes[found.at..found.next],
+        at: found.at as u32,
+    }
 }

@@ -1,7 +1,8 @@
+//! The kinds of tokens, and what their first bytes begin.
 ghost use Rattle.std.specs.Prelude.{◌≡◌, ◌↔◌, ℕ, [], IsTrue, Some, length};
 ghost use Rattle.cmd_text.specs.Scan.{is_blank, is_digit, is_comment, Mode, Scanned, start, word};
 ghost use Rattle.cmd_tree.specs.Limits.{is_letter, is_tail};
-ghost use Rattle.cmd_text.specs.ScanView.{token_of, started, IsPlainStart};
+ghost use Rattle.cmd_text.specs.Mirror.ScanView.{token_of, started, IsPlainStart};
 
 /// A token of a command file. The bytes of a word are kept apart.
 #[derive(Clone, Copy, PartialEq, Eq)]

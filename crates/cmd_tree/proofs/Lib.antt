@@ -9,3 +9,4 @@ pub mod RoundsTraces
 pub mod RoundsPorts
 pub mod Depths
 pub mod EqualTrees
+pub mod Walking

@@ -2,3 +2,4 @@
 pub mod Stored
 pub mod Size
 pub mod Falls
+pub mod Walked

@@ -3,6 +3,7 @@ pub mod FormNet
 pub mod FormShapes
 pub mod Compiling
 pub mod Endings
+pub mod FormAnswers
 pub mod Sourcing
 pub mod Stops
 pub mod CommandPorts

@@ -1,5 +1,5 @@
 -- What is read of `main` alone is a command, where it is within the limits.
-use Rattle.std.proofs.Common.{◌≡◌, ℕ, ◌<◌, ◌≤◌, ◌^◌, Bool, true, false, List, [], ◌∷◌, ◌++◌, map, length, Option, Some, None, Err, refl, sym, ◌∙◌, ap, arith}
+use Rattle.std.proofs.Common.{◌≡◌, ℕ, ◌<◌, ◌≤◌, ◌^◌, Bool, true, false, List, [], ◌∷◌, ◌++◌, map, length, Option, Some, None, Result, Err, refl, sym, ◌∙◌, ap, arith}
 use Rattle.std.specs.Prelude.{nat_lt, if◌then◌else◌, option_map}
 use Rattle.std.specs.List.{IsDistinct}
 use Rattle.std.specs.Str.{bytes_eq}
@@ -12,6 +12,7 @@ use Rattle.cmd_text.specs.declared.file.Factor.TheVariants.{Own, Named}
 use Rattle.cmd_text.specs.declared.file.Named as use_of
 use Rattle.cmd_text.specs.Source.{IsFaultOfBytes}
 use Rattle.cmd_text.specs.Fault.{Fault}
+use Rattle.cmd_text.specs.Reading.{Standing, answer}
 use Rattle.cmd_text.specs.Scan.{Between, scan}
 use Rattle.cmd_text.proofs.FileSound.{cat-assoc}
 use Rattle.cmd_text.proofs.Scanned.{proper_scan}
@@ -94,3 +95,10 @@ no_source bytes f is h s = absurd (ok_err (sym ((read_text_exactly bytes s.names
   where
     ok_err : ended_well s.names s.sentences ≡ Err f → ⊥
     ok_err e = cc
+
+-- bytes have one fault
+one_err : (a : Result Standing Fault) (f g : Fault) → a ≡ Err f → a ≡ Err g → f ≡ g
+one_err a f g e d = cc
+
+pub one_fault : (bytes : List ℕ) (f g : Fault) → IsFaultOfBytes bytes f → IsFaultOfBytes bytes g → f ≡ g
+one_fault bytes f g h k = one_err (answer bytes) f g ((read_fault_exactly bytes f).1 h) ((read_fault_exactly bytes g).1 k)

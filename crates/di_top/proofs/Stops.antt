@@ -19,11 +19,11 @@ use Rattle.di_top.specs.declared.outcome.Why.TheVariants as why
 use Rattle.di_top.specs.declared.source.SourceRefusal.{SourceRefusal}
 use Rattle.di_top.specs.declared.source.SourceRefusal.TheVariants as source
 use Rattle.di_top.specs.Sources as spec
-use Rattle.di_top.specs.Sources.{Sourced, Main, Source, IsFileOf, sourced, Tells}
+use Rattle.di_top.specs.Sources.{Sourced, Main, Source, IsFileOf, sourced, TellsFile}
 use Rattle.di_top.specs.Calls.{Reading, Loaded}
 use Rattle.di_top.specs.CommandFiles.{most_bytes, command_cap, refused_as, told_of_text, told_of_source, StopsWith, TooLong, Faulty, Refuses, IsAdmittedText}
 use Rattle.di_top.specs.Plans.{IsStop}
-use Rattle.di_top.proofs.Sourcing.{one_source, no_source}
+use Rattle.di_top.proofs.Sourcing.{one_source, no_source, one_fault}
 
 -- ---- what stops a call
 pub text_stops : (bytes : List ℕ) (refusal : Refusal) → length bytes ≤ most_bytes → IfSome (fault_of refusal) (λ f. IsFaultOfBytes bytes f)
@@ -38,7 +38,7 @@ text_stops bytes text.NoMemory few h = inl refl
 source_is : (bytes : List ℕ) (names : List (List ℕ)) (ss : List Sentence) (is : Sourced) → IsFileOf bytes names ss → sourced names ss ≡ is → Source bytes is
 source_is bytes names ss is f e = record { names = names; sentences = ss; read = f; same = e }
 
-pub source_stops : (bytes : List ℕ) (names : List (List ℕ)) (ss : List Sentence) (refusal : SourceRefusal) → IsFileOf bytes names ss → Tells (sourced names ss) refusal
+pub source_stops : (bytes : List ℕ) (names : List (List ℕ)) (ss : List Sentence) (refusal : SourceRefusal) → IsFileOf bytes names ss → TellsFile (sourced names ss) refusal
     → (told_of_source refusal ≡ NoMemory) ⊎ StopsWith bytes (told_of_source refusal)
 source_stops bytes names ss source.NotThisForm f h = inr (Refuses spec.NotThisForm (source_is bytes names ss spec.NotThisForm f h) refl)
 source_stops bytes names ss (source.TooManySymbols n) f h = inr (Refuses (spec.TooManySymbols n) (source_is bytes names ss (spec.TooManySymbols n) f h) refl)
@@ -91,3 +91,35 @@ stops_are_stops bytes outcome (Refuses is s e) = refuses_stop is outcome e
     refuses_stop (spec.TooManyProcs n) outcome e = let same : Limit 4 n ≡ outcome = cc in let P : Outcome → Type 0 = IsStop in subst P same tt
     refuses_stop (spec.TooManyPlaces n) outcome e = let same : Limit 5 n ≡ outcome = cc in let P : Outcome → Type 0 = IsStop in subst P same tt
     refuses_stop (Main names procs) outcome e = some_stop (broken procs) outcome e
+
+-- ---- bytes stop a call with one outcome
+abbrev fault_refusal : faults.Fault → Refusal
+fault_refusal (faults.BadByte at) = text.BadByte at
+fault_refusal (faults.BadToken at) = text.BadToken at
+fault_refusal (faults.Unexpected at) = text.Unexpected at
+fault_refusal (faults.NameTooLong at) = text.NameTooLong at
+fault_refusal (faults.TooDeep at) = text.TooDeep at
+
+refusal_told : (refusal : Refusal) (fault : faults.Fault) → fault_of refusal ≡ Some fault → refusal ≡ fault_refusal fault
+refusal_told (text.BadByte at) fault e = let same : faults.BadByte at ≡ fault = cc in ap fault_refusal same
+refusal_told (text.BadToken at) fault e = let same : faults.BadToken at ≡ fault = cc in ap fault_refusal same
+refusal_told (text.Unexpected at) fault e = let same : faults.Unexpected at ≡ fault = cc in ap fault_refusal same
+refusal_told (text.NameTooLong at) fault e = let same : faults.NameTooLong at ≡ fault = cc in ap fault_refusal same
+refusal_told (text.TooDeep at) fault e = let same : faults.TooDeep at ≡ fault = cc in ap fault_refusal same
+refusal_told text.NoMemory fault e = absurd (cc)
+
+pub one_stop : (bytes : List ℕ) (a b : Outcome) → StopsWith bytes a → StopsWith bytes b → a ≡ b
+one_stop bytes a b (TooLong long e) (TooLong longer h) = e ∙ sym h
+one_stop bytes a b (TooLong long e) (Faulty refusal fault few told is h) = absurd (omega (arith, long, few))
+one_stop bytes a b (TooLong long e) (Refuses is s h) = absurd (omega (arith, long, s.read.few))
+one_stop bytes a b (Faulty refusal fault few told is e) (TooLong long h) = absurd (omega (arith, long, few))
+one_stop bytes a b (Faulty refusal fault few told is e) (Faulty other kind short said it h) =
+    let same : fault ≡ kind = one_fault bytes fault kind is it in
+    let alike : refusal ≡ other = refusal_told refusal fault told ∙ ap fault_refusal same ∙ sym (refusal_told other kind said) in
+    e ∙ ap (λ x. Refused (why.Text x)) alike ∙ sym h
+one_stop bytes a b (Faulty refusal fault few told is e) (Refuses it s h) = absurd (no_source bytes fault it is s)
+one_stop bytes a b (Refuses is s e) (TooLong long h) = absurd (omega (arith, long, s.read.few))
+one_stop bytes a b (Refuses is s e) (Faulty refusal fault few told it h) = absurd (no_source bytes fault is it s)
+one_stop bytes a b (Refuses is s e) (Refuses it t h) =
+    let same : Some a ≡ Some b = sym e ∙ ap refused_as (one_source bytes is it s t) ∙ h in
+    cc

@@ -4,7 +4,7 @@ use Rattle.di_top.specs.declared.outcome.Outcome.{Outcome}
 use Rattle.di_top.specs.declared.outcome.Outcome.TheVariants.{Done, WriteFault, NoMemory}
 use Rattle.di_top.specs.Requests.{Request, files_of}
 use Rattle.di_top.specs.Calls.{Reading, Change, Quiet, Tells, Failed, Unchanged, Gained, GainedFront}
-use Rattle.di_top.specs.Outcomes.{Gives, Prints, Admits}
+use Rattle.di_top.specs.Outcomes.{FormGives, Gives, Prints}
 use Rattle.di_top.specs.Say.{say_line}
 
 -- a text that the form prints was appended
@@ -49,9 +49,6 @@ pub record Promise (request : Option Request) (r : Reading) (out say : Change) (
   pub table : outcome ≡ WriteFault → CanRise out → CanRise say → FaultTable request r out say
   pub out_rises : out.before < out.now → Gives request r Done
   pub say_rises : say.before < say.now → Failed out ⊎ CutLine request r say
-  -- where the files are admitted and no count rose, only memory may be missing
-  pub complete : Admits request r → Quiet r (files_of request) → (Failed out → ⊥) → (Failed say → ⊥)
-      → (outcome ≡ NoMemory) ⊎ (outcome ≡ Done)
-  -- and only such files are done, or printed in part
-  pub only_admitted : Gives request r Done → Tells r (files_of request) → Admits request r
-  pub only_printed : (text : List ℕ) → Prints request r text → Tells r (files_of request) → Admits request r
+  -- where the contents are told and no count rose, memory may be missing; else the outcome is the one that the form gives
+  pub exact : Tells r (files_of request) → Quiet r (files_of request) → (Failed out → ⊥) → (Failed say → ⊥)
+      → (answer : Outcome) → FormGives request r answer → (outcome ≡ NoMemory) ⊎ (outcome ≡ answer)

@@ -65,9 +65,9 @@ pub record Source (bytes : List ℕ) (is : Sourced) : Type 0 where
   pub same : sourced names sentences ≡ is
 
 -- the refusal tells what the file is; memory may always be missing
-abbrev pub Tells : Sourced → SourceRefusal → Type 0
-Tells is refusal.NotThisForm = is ≡ NotThisForm
-Tells is (refusal.TooManySymbols count) = is ≡ TooManySymbols count
-Tells is (refusal.TooManyProcs count) = is ≡ TooManyProcs count
-Tells is (refusal.TooManyPlaces count) = is ≡ TooManyPlaces count
-Tells is refusal.NoMemory = ⊤
+abbrev pub TellsFile : Sourced → SourceRefusal → Type 0
+TellsFile is refusal.NotThisForm = is ≡ NotThisForm
+TellsFile is (refusal.TooManySymbols count) = is ≡ TooManySymbols count
+TellsFile is (refusal.TooManyProcs count) = is ≡ TooManyProcs count
+TellsFile is (refusal.TooManyPlaces count) = is ≡ TooManyPlaces count
+TellsFile is refusal.NoMemory = ⊤

@@ -18,6 +18,6 @@ mod tests;
 mod top;
 mod words;
 
-pub use laws::compile_law;
+pub use laws::{compile_law, forms_law};
 pub use outcome::{Outcome, Why};
 pub use top::run;

@@ -3,7 +3,7 @@ ghost use Rattle.std.specs.Prelude.{◌≡◌, ◌<◌, ◌^◌, IfOk, IfErr, On
 ghost use Rattle.std.specs.List.{IsDistinct};
 ghost use Rattle.std.specs.Str.{bytes_eq};
 ghost use Rattle.cmd_tree.specs.Limits.{places_of_all};
-ghost use Rattle.di_top.specs.Sources.{sourced, main_of, procs_of, within_limits, IsFile, Tells};
+ghost use Rattle.di_top.specs.Sources.{sourced, main_of, procs_of, within_limits, IsFile, TellsFile};
 ghost use Rattle.di_top.specs.Sources as spec;
 
 use cmd_text::{Factor, File, Sentence};
@@ -61,7 +61,7 @@ impl<T: Drop> From<AllocFailed<T>> for SourceRefusal {
 pub fn source(alloc: Global, file: File) -> Result<Command, SourceRefusal>
     requires read { IsFile file.names file.sentences }
     ensures ok { IfOk result (λ command. sourced file.names file.sentences ≡ spec.Sourced.Main command.names command.procs) }
-    ensures refused { IfErr result (Tells (sourced file.names file.sentences)) }
+    ensures refused { IfErr result (TellsFile (sourced file.names file.sentences)) }
 {
     let File { names, sentences } = file;
     let Some(procs) = main_procs(alloc, sentences)? else {
@@ -105,7 +105,7 @@ fn own_procs(alloc: Global, mut factors: Items<Factor>) -> Result<Option<Items<P
 fn check_limits(names: &NameSet, procs: &[Proc]) -> Result<(), SourceRefusal>
     requires { places_of_all procs.now < 2 ^ 32 }
     ensures ok { OnOk result (within_limits names.now procs.now ≡ spec.Sourced.Main names.now procs.now) }
-    ensures refused { IfErr result (Tells (within_limits names.now procs.now)) }
+    ensures refused { IfErr result (TellsFile (within_limits names.now procs.now)) }
     ensures distinct { IsDistinct bytes_eq names.now }
 {
     let symbols = names.len();

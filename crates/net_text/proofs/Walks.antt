@@ -14,37 +14,37 @@ use Rattle.text_lines.specs.Lines.{numbered_line}
 use Rattle.di_io.specs.Printing.{Printing, prints}
 use Rattle.di_io.proofs.Prints.{prints_twice, prints_none}
 use Rattle.net_text.specs.NetText.{mark_sign, port_line, ports_text}
-use Rattle.net_text.specs.Mirror.Ports.{Walked, mark_line, walk_mark, walk_marks}
+use Rattle.net_text.specs.Mirror.Ports.{PortWalk, mark_line, walk_mark, walk_marks}
 
-pub walk_append : (names : List (List ℕ)) (w : Walked) (ms ns : List Mark)
+pub walk_append : (names : List (List ℕ)) (w : PortWalk) (ms ns : List Mark)
     → walk_marks names w (ms ++ ns) ≡ walk_marks names (walk_marks names w ms) ns
 unfolding walk_marks
 walk_append names w [] ns = refl
 walk_append names w (m ∷ ms) ns = walk_append names (walk_mark names w m) ms ns
 
-pub walk_none : (names : List (List ℕ)) (w : Walked) → walk_marks names w [] ≡ w
+pub walk_none : (names : List (List ℕ)) (w : PortWalk) → walk_marks names w [] ≡ w
 unfolding walk_marks
 walk_none names w = refl
 
 -- what is still to be walked, and its first piece
-pub walk_rest : (names : List (List ℕ)) (w v r : Walked) (now piece rest : List Mark) → now ≡ piece ++ rest
+pub walk_rest : (names : List (List ℕ)) (w v r : PortWalk) (now piece rest : List Mark) → now ≡ piece ++ rest
     → v ≡ walk_marks names w piece → walk_marks names w now ≡ r → walk_marks names v rest ≡ r
 walk_rest names w v r now piece rest opened walked whole =
-    ap (λ (a : Walked). walk_marks names a rest) walked ∙ sym (walk_append names w piece rest)
+    ap (λ (a : PortWalk). walk_marks names a rest) walked ∙ sym (walk_append names w piece rest)
     ∙ ap (walk_marks names w) (sym opened) ∙ whole
 
 -- and its first mark
-pub walk_next : (names : List (List ℕ)) (w v r : Walked) (ms : List Mark) (i : ℕ) (d : Mark) → i < length ms
+pub walk_next : (names : List (List ℕ)) (w v r : PortWalk) (ms : List Mark) (i : ℕ) (d : Mark) → i < length ms
     → v ≡ walk_mark names w (get_or ms i d) → walk_marks names w (drop i ms) ≡ r
     → walk_marks names v (drop (i + 1) ms) ≡ r
 unfolding walk_marks
 walk_next names w v r ms i d below walked whole =
     let opened : drop i ms ≡ get_or ms i d ∷ drop (i + 1) ms = rw add-one (drop-cons ms i d below) in
-    ap (λ (a : Walked). walk_marks names a (drop (i + 1) ms)) walked
+    ap (λ (a : PortWalk). walk_marks names a (drop (i + 1) ms)) walked
     ∙ ap (walk_marks names w) (sym opened) ∙ whole
 
 -- nothing is still to be walked
-pub walk_end : (names : List (List ℕ)) (w r : Walked) (rest : List Mark) → rest ≡ []
+pub walk_end : (names : List (List ℕ)) (w r : PortWalk) (rest : List Mark) → rest ≡ []
     → walk_marks names w rest ≡ r → w ≡ r
 unfolding walk_marks
 walk_end names w r rest none whole = ap (walk_marks names w) (sym none) ∙ whole
@@ -120,7 +120,7 @@ lines_next names m ms k same below =
     ∙ ap (ports_text (gives_symbol (m ∷ ms)) k) (sym opened)
 
 -- the first k symbols were met before, and all the others are met by then
-abbrev all_met : List (List ℕ) → Printing → ℕ → List Mark → Walked
+abbrev all_met : List (List ℕ) → Printing → ℕ → List Mark → PortWalk
 all_met names p k ms = (prints p (lines_from names ms k), length names)
 
 walk_new : (names : List (List ℕ)) (p : Printing) (k : ℕ) (m : Mark) (ms : List Mark) → m.sym.0 ≡ k
@@ -132,7 +132,7 @@ walk_new names p k m ms same below rest =
     let met : walk_mark names (p, k) m ≡ (prints p (line_of names m k), k + 1) =
     walk_first_mark names p k m same ∙ ap (λ (t : List ℕ). (prints p t, k + 1)) (line_same names k m same) in
     let lines = lines_next names m ms k same below in
-    ap (λ (w : Walked). walk_marks names w ms) met ∙ rest
+    ap (λ (w : PortWalk). walk_marks names w ms) met ∙ rest
     ∙ ap (λ (q : Printing). (q, length names))
     (prints_twice p (line_of names m k) (lines_from names ms (k + 1)) ∙ ap (prints p) lines)
 
@@ -143,7 +143,7 @@ walk_known names p k m ms below rest =
     let same : lines_from names ms k ≡ lines_from names (m ∷ ms) k =
     ports_same (gives_symbol ms) (gives_symbol (m ∷ ms)) k (drop k names)
     (λ (i : ℕ) (h : k ≤ i). sym (gives_later m ms k i below h)) in
-    ap (λ (w : Walked). walk_marks names w ms) (walk_other_mark names p k m (omega arith)) ∙ rest
+    ap (λ (w : PortWalk). walk_marks names w ms) (walk_other_mark names p k m (omega arith)) ∙ rest
     ∙ ap (λ (t : List ℕ). (prints p t, length names)) same
 
 -- the lines of the symbols that were not met before are printed

@@ -1,2 +1,2 @@
 pub mod Ports
-pub mod Whole
+pub mod Printable

@@ -4,7 +4,7 @@
 ghost use Rattle.std.specs.Prelude.{◌≡◌, flat_map};
 ghost use Rattle.di_io.specs.Printing.{prints};
 ghost use Rattle.net_text.specs.NetText.{number_text, crossing_text, shape_text, kind_text, component_line, node_line};
-ghost use Rattle.net_text.specs.Mirror.Whole.{IsWhole};
+ghost use Rattle.net_text.specs.Mirror.Printable.{IsPrintable};
 
 use basic_kinds::{Kind, Shape, ports};
 use di_io::{Printer, Sink};
@@ -13,7 +13,7 @@ use text_lines::print_worded;
 
 /// Prints the line of a node; a command has none.
 pub fn print_node<S: Sink>(node: &Node, printer: &mut Printer<'_, S>)
-    requires { IsWhole node.now }
+    requires { IsPrintable node.now }
     ensures { printer.new ≡ prints printer.old (node_line node.now) }
 {
     if let NodeSpec::Kind(kind) = &node.spec {

@@ -7,7 +7,7 @@ ghost use Rattle.di_io.specs.Faults.{Rose};
 ghost use Rattle.di_io.specs.Written.{Gains, GainsFront};
 ghost use Rattle.di_io.specs.Printing.{prints};
 ghost use Rattle.net_text.specs.NetText.{node_line, command_net_text, net_text};
-ghost use Rattle.net_text.specs.Mirror.Whole.{IsWhole};
+ghost use Rattle.net_text.specs.Mirror.Printable.{IsPrintable};
 
 use crate::component::print_node;
 use crate::ports::print_ports;
@@ -42,7 +42,7 @@ fn print_net<S: Sink>(net: &Net, printer: &mut Printer<'_, S>)
 }
 
 fn print_command_net<S: Sink>(command: &Command, parts: &[Node], printer: &mut Printer<'_, S>)
-    requires { AllByRecursion IsWhole parts.now }
+    requires { AllByRecursion IsPrintable parts.now }
     ensures { printer.new ≡ prints printer.old (command_net_text command.now parts.now) }
 {
     printer.print(b"dinet 1\nspec ");
@@ -55,7 +55,7 @@ fn print_command_net<S: Sink>(command: &Command, parts: &[Node], printer: &mut P
 
 #[tactic(auto, using(di_io::proofs::Prints::prints_none, di_io::proofs::Each::each_none))]
 fn print_nodes<S: Sink>(nodes: &[Node], printer: &mut Printer<'_, S>)
-    requires { AllByRecursion IsWhole nodes.now }
+    requires { AllByRecursion IsPrintable nodes.now }
     ensures { printer.new ≡ prints printer.old (flat_map node_line nodes.now) }
 {
     for node in nodes {

@@ -1,5 +1,5 @@
 -- What the looks at a node and at a part say of whether the part may take the node's place.
-use Rattle.std.proofs.Common.{◌≡◌, ◌⊎◌, inl, inr, ⊎_elim, ℕ, ◌<◌, ◌≤◌, Bool, true, false, true≢false, not, IsTrue, List, length, refl, sym, ap, ◌∙◌, arith, Option, None, Some}
+use Rattle.std.proofs.Common.{◌≡◌, ⊎_elim, ℕ, ◌<◌, Bool, true, false, true≢false, not, IsTrue, List, length, refl, sym, arith, Option, None, Some}
 use Rattle.std.specs.Prelude.{slice_get, MatchOption}
 use Rattle.std.specs.Option.{is_some}
 use Rattle.std.specs.List.{AllByRecursion}
@@ -11,10 +11,13 @@ use Rattle.substitute.specs.Splice.{Fitting}
 use Rattle.substitute.specs.Refusals.{IsSame, IsAround, IsNone, IsLeast}
 use Rattle.substitute.proofs.Ports.{around_found}
 
-module _ (c : Circuit) (a : ℕ) (m : Circuit) (net : IsNetwork c) (closed : IsClosed c) (part : IsNetwork m) (component : 0 < a) (inside : a < length c.nodes)
-    (ends : List ℕ) (is : ends ≡ ends_at (slice_get c.nodes a)) (known : AllByRecursion (λ w. w < c.wires) ends) where
+module _ (c : Circuit) (a : ℕ) (m : Circuit) (net : IsNetwork c) (closed : IsClosed c) (part : IsNetwork m)
+    (component : 0 < a) (inside : a < length c.nodes)
+    (ends : List ℕ) (is : ends ≡ ends_at (slice_get c.nodes a))
+    (known : AllByRecursion (λ w. w < c.wires) ends) where
   counted_known : (w : ℕ) → 1 < count w ends → w < c.wires
-  counted_known w h = ⊎_elim (λ l. l) (λ g. absurd (omega (arith, h, count_above c.wires w ends g known))) (cases_lt w c.wires)
+  counted_known w h = ⊎_elim (λ l. l) (λ g. absurd (omega (arith, h, count_above c.wires w ends g known)))
+      (cases_lt w c.wires)
 
   pub twice_refused : (w : ℕ) × (1 < count w ends) → Fitting c a m → ⊥
   twice_refused h fit =
@@ -22,7 +25,8 @@ module _ (c : Circuit) (a : ℕ) (m : Circuit) (net : IsNetwork c) (closed : IsC
       let around = (around_found c net.wired closed a inside ends is).0 h.0 l h.1 in
       fit.not_self h.0 l around.0 around.1
 
-  fits : ((w : ℕ) × (1 < count w ends) → ⊥) → IsSame c a m → IsClosed m → IsNone (IsAround m 0) m.wires → Fitting c a m
+  fits : ((w : ℕ) × (1 < count w ends) → ⊥) → IsSame c a m → IsClosed m → IsNone (IsAround m 0) m.wires
+      → Fitting c a m
   fits once same part_closed none = record {
     fit_net = net.wired;
     closed_net = closed;
@@ -37,14 +41,17 @@ module _ (c : Circuit) (a : ℕ) (m : Circuit) (net : IsNetwork c) (closed : IsC
   }
 
   pub looked : ((w : ℕ) × (1 < count w ends) → ⊥) → IsSame c a m → IsClosed m → (o : Option ℕ)
-      → MatchOption o (IsNone (IsAround m 0) m.wires) (λ w. IsLeast (IsAround m 0) m.wires w) → (b : Bool) → is_some o ≡ not b
+      → MatchOption o (IsNone (IsAround m 0) m.wires) (λ w. IsLeast (IsAround m 0) m.wires w) → (b : Bool)
+      → is_some o ≡ not b
       → (IsTrue b → Fitting c a m) × (Fitting c a m → IsTrue b)
   looked once same part_closed None h true e = (λ t. fits once same part_closed h, λ fit. refl)
   looked once same part_closed None h false e = absurd (true≢false (sym e))
   looked once same part_closed (Some w) h true e = absurd (true≢false e)
-  looked once same part_closed (Some w) h false e = (λ t. absurd (true≢false (sym t)), λ fit. absurd (fit.not_through w h.0 h.1))
+  looked once same part_closed (Some w) h false e =
+      (λ t. absurd (true≢false (sym t)), λ fit. absurd (fit.not_through w h.0 h.1))
 
 -- a look that found nothing open says that the network is closed
-pub none_open : {X : Type 0} (P : Type 0) (Q : X → Type 0) (o : Option X) → MatchOption o P Q → is_some o ≡ false → P
+pub none_open : {X : Type 0} (P : Type 0) (Q : X → Type 0) (o : Option X) → MatchOption o P Q → is_some o
+    ≡ false → P
 none_open P Q None h e = h
 none_open P Q (Some x) h e = absurd (true≢false e)

@@ -1,10 +1,7 @@
 -- The loop that looks at each part, one step at a time.
-use Rattle.std.proofs.Common.{◌≡◌, ◌↔◌, ℕ, suc, ◌+◌, ◌<◌, ◌≤◌, List, [], ◌∷◌, length, drop, get_or, Option, None, Some, refl, sym, ap, ◌∙◌, subst, arith, add-one}
-use Rattle.std.proofs.lemmas.List.{drop_all}
+use Rattle.std.proofs.Common.{◌≡◌, ◌↔◌, ℕ, ◌+◌, ◌<◌, List, length, drop, get_or, Option}
 use Rattle.net_core.specs.Wiring.{Circuit}
-use Rattle.substitute.specs.Splice.{Fitting}
 use Rattle.substitute.specs.Splices.{FitEach, wires_in}
-use Rattle.substitute.proofs.Passes.{left_at}
 
 -- the parts before place i fit, and leave room for so many wires below the bound
 pub record Looks (c : Circuit) (ps : List (Option Circuit)) (stamps : List ℕ) (many room i : ℕ) : Type 0 where

@@ -14,10 +14,12 @@ module _ (ends : List ℕ) (first : ℕ) (m : Circuit) (u : ℕ) where
   unfolding renumber_at
   entering_number e = rw (eq-eqb (driver m u) 0 e) refl
 
-  pub leaving_number : ◌≢◌ {A = ℕ} (driver m u) 0 → receiver m u ≡ 0 → renumber_at ends first m u ≡ get_or ends (input_port m u) 0
+  pub leaving_number : ◌≢◌ {A = ℕ} (driver m u) 0 → receiver m u ≡ 0 → renumber_at ends first m u
+      ≡ get_or ends (input_port m u) 0
   unfolding renumber_at
   leaving_number h e = rw (ne_eqb (driver m u) 0 h, eq-eqb (receiver m u) 0 e) refl
 
-  pub inner_number : ◌≢◌ {A = ℕ} (driver m u) 0 → ◌≢◌ {A = ℕ} (receiver m u) 0 → renumber_at ends first m u ≡ first + rank (is_inner m) u
+  pub inner_number : ◌≢◌ {A = ℕ} (driver m u) 0 → ◌≢◌ {A = ℕ} (receiver m u) 0 → renumber_at ends first m u
+      ≡ first + rank (is_inner m) u
   unfolding renumber_at
   inner_number h g = rw (ne_eqb (driver m u) 0 h, ne_eqb (receiver m u) 0 g) refl

@@ -7,7 +7,7 @@ use Rattle.std.proofs.lemmas.List.{drop_all, same_lists, get_or_default}
 use Rattle.std.proofs.lemmas.List.FromFn.{get_or-map-range_with_len, length-map-range_with_len}
 use Rattle.net_core.specs.Wiring.{count}
 use Rattle.net_core.proofs.Counting.{count_nil, count_same, count_other, count_few}
-use Rattle.substitute.specs.Renumbering.{written}
+use Rattle.substitute.specs.Mirror.Tables.{written}
 
 -- what is left to count at port i, from one port to the next
 left_same : (ends : List ℕ) (i w : ℕ) → i < length ends → w ≡ get_or ends i 0 → count w (drop i ends) ≡ suc (count w (drop (i + 1) ends))

@@ -226,8 +226,11 @@ module _ (c : Circuit) (a : ℕ) (m : Circuit) (fit : Fitting c a m) where
   pub spliced_network : IsNetwork c → IsNetwork (spliced c a m)
   spliced_network network =
       let (x, e) = node_at c.nodes 0 network.some in record {
-        some = omega (arith, slice_get_within (spliced c a m).nodes 0 x
-            (ap (slice_get (spliced c a m).nodes) (sym (net_zero c a m fit)) ∙ net_node c a m fit 0 component_other ∙ e));
+        some = omega (
+          arith,
+          slice_get_within (spliced c a m).nodes 0 x
+              (ap (slice_get (spliced c a m).nodes) (sym (net_zero c a m fit)) ∙ net_node c a m fit 0 component_other ∙ e),
+        );
         wired = spliced_fits;
       }
 

@@ -1,5 +1,5 @@
 -- The stamps of the wires of a list, from one port to the next.
-use Rattle.std.proofs.Common.{◌≡◌, ◌≢◌, ◌↔◌, ◌⊎◌, inl, inr, ⊎_elim, ℕ, suc, ◌+◌, ◌<◌, ◌≤◌, Bool, true, false, true≢false, IsTrue, List, [], ◌∷◌, ◌++◌, length, take, drop, get_or, refl, sym, ap, ◌∙◌, subst, arith, add-one, get_or-set_same, get_or-set_other}
+use Rattle.std.proofs.Common.{◌≡◌, ◌⊎◌, inl, inr, ⊎_elim, ℕ, suc, ◌+◌, ◌<◌, ◌≤◌, Bool, false, true≢false, IsTrue, List, [], ◌∷◌, length, take, get_or, refl, sym, ap, ◌∙◌, arith, add-one, get_or-set_same, get_or-set_other}
 use Rattle.std.proofs.Math.ListN.{set, length-set}
 use Rattle.std.proofs.Math.Seq.{take-suc}
 use Rattle.std.proofs.lemmas.Bool.{cases_eq}
@@ -17,7 +17,8 @@ pub record Stamped (stamps wires : List ℕ) (stamp i : ℕ) (twice : Bool) : Ty
 none_in_nothing : (w : ℕ) (wires : List ℕ) → count w (take 0 wires) ≡ 0
 none_in_nothing w wires = count_nil w
 
-pub stamps_begin : (stamps wires : List ℕ) (stamp : ℕ) → ((w : ℕ) → w < length stamps → get_or stamps w 0 < stamp) → Stamped stamps wires stamp 0 false
+pub stamps_begin : (stamps wires : List ℕ) (stamp : ℕ)
+    → ((w : ℕ) → w < length stamps → get_or stamps w 0 < stamp) → Stamped stamps wires stamp 0 false
 stamps_begin stamps wires stamp fresh = record {
   bound = λ w l. omega (arith, fresh w l);
   marks = λ w l e. absurd (omega (arith, fresh w l, e));
@@ -33,14 +34,17 @@ count_last : (wires : List ℕ) (i w : ℕ) → i < length wires
 count_last wires i w h =
     let v : ℕ = get_or wires i 0 in
     let more : count w (take (i + 1) wires) ≡ count w (take i wires) + count w (v ∷ []) =
-        ap (λ k. count w (take k wires)) (add-one i) ∙ ap (count w) (take-suc wires i 0 h) ∙ count-append w (take i wires) (v ∷ []) in
+    ap (λ k. count w (take k wires)) (add-one i) ∙ ap (count w) (take-suc wires i 0 h)
+    ∙ count-append w (take i wires) (v ∷ []) in
     ⊎_elim
-      (λ e. inl (e, omega (arith, more, ap (λ u. count w (u ∷ [])) (sym e), count_same w [], count_nil w)))
-      (λ d. inr (d, omega (arith, more, count_other w v [] d, count_nil w)))
-      (cases_eq w v)
+    (λ e. inl (e, omega (arith, more, ap (λ u. count w (u ∷ [])) (sym e), count_same w [], count_nil w)))
+    (λ d. inr (d, omega (arith, more, count_other w v [] d, count_nil w)))
+    (cases_eq w v)
 
-module _ (stamps wires : List ℕ) (stamp i : ℕ) (twice now : Bool) (s : Stamped stamps wires stamp i twice) (within : i < length wires)
-    (known : get_or wires i 0 < length stamps) (was : IsTrue now → IsTrue twice ⊎ (get_or stamps (get_or wires i 0) 0 ≡ stamp))
+module _ (stamps wires : List ℕ) (stamp i : ℕ) (twice now : Bool) (s : Stamped stamps wires stamp i twice)
+    (within : i < length wires)
+    (known : get_or wires i 0 < length stamps)
+    (was : IsTrue now → IsTrue twice ⊎ (get_or stamps (get_or wires i 0) 0 ≡ stamp))
     (kept : IsTrue twice → IsTrue now) (seen : get_or stamps (get_or wires i 0) 0 ≡ stamp → IsTrue now) where
   abbrev here : ℕ
   here = get_or wires i 0
@@ -72,8 +76,16 @@ module _ (stamps wires : List ℕ) (stamp i : ℕ) (twice now : Bool) (s : Stamp
         (λ d. stamp_there w d.0 ∙ s.marked w (omega (arith, many)) (omega (arith, d.1, h)))
         (count_last wires i w within);
     found = λ h. ⊎_elim
-        (λ t. let k = s.found t in (k.0, ⊎_elim (λ e. omega (arith, e.1, k.1)) (λ d. omega (arith, d.1, k.1)) (count_last wires i k.0 within)))
-        (λ e. (here, ⊎_elim (λ f. omega (arith, f.1, s.marks here known e)) (λ d. absurd (d.0 refl)) (count_last wires i here within)))
+        (λ t. let k = s.found t in (
+          k.0,
+          ⊎_elim (λ e. omega (arith, e.1, k.1)) (λ d. omega (arith, d.1, k.1))
+              (count_last wires i k.0 within),
+        ))
+        (λ e. (
+          here,
+          ⊎_elim (λ f. omega (arith, f.1, s.marks here known e)) (λ d. absurd (d.0 refl))
+              (count_last wires i here within),
+        ))
         (was h);
     missed = λ w h. ⊎_elim
         (λ e. seen (s.marked here known (omega (arith, h, e.1, ap (λ u. count u (take i wires)) e.0))))

@@ -12,7 +12,7 @@ use Rattle.net_core.proofs.Found.{Located, gives_located, takes_located, all_nod
 use Rattle.substitute.specs.Splice.{driver, receiver, output_port, input_port, is_inner, rank, renumber_at, renumber, spliced, Fitting, FitsAt}
 use Rattle.substitute.proofs.NewNumbers.{entering_number, leaving_number, inner_number}
 use Rattle.net_core.specs.Walk.{ends_at}
-use Rattle.substitute.specs.Renumbering.{written, filled, after_filled}
+use Rattle.substitute.specs.Mirror.Tables.{written, filled, after_filled}
 use Rattle.substitute.proofs.Fused.{inner_from}
 use Rattle.net_core.proofs.Sizes.{nodes_few}
 use Rattle.substitute.proofs.SplicedNet.{spliced_fits, spliced_closed}
@@ -191,12 +191,15 @@ module _ (ends : List ℕ) (first : ℕ) (m : Circuit) (fit : FitsAt ends m) (y 
 
 -- The table and the number of wires that the code makes of the ends at both nodes.
 pub numbers_are : (ends : List ℕ) (first : ℕ) (m : Circuit) → FitsAt ends m → (inner : List ℕ) → inner ≡ ends_at (slice_get m.nodes 0)
-    → (filled (map (λ w. written inner ends w None) (range_with_len 0 m.wires)) first ≡ map (renumber_at ends first m) (range_with_len 0 m.wires))
-    × (after_filled (map (λ w. written inner ends w None) (range_with_len 0 m.wires)) first ≡ first + rank (is_inner m) m.wires)
-numbers_are ends first m fit inner e =
+    → (n : ℕ) → n ≡ m.wires → (fused : List (Option ℕ)) → fused ≡ map (λ w. written inner ends w None) (range_with_len 0 n)
+    → (filled fused first ≡ map (renumber_at ends first m) (range_with_len 0 m.wires))
+    × (after_filled fused first ≡ first + rank (is_inner m) m.wires)
+numbers_are ends first m fit inner e n count fused made =
     let (y, there) = node_at m.nodes 0 fit.network.some in
     let ye : inner ≡ y.ends = e ∙ ap ends_at there in
-    rw ye (both_are ends first m fit y there)
+    let all : fused ≡ map (λ w. written y.ends ends w None) (range_with_len 0 m.wires) =
+    made ∙ (λ i. map (λ w. written (ye i) ends w None) (range_with_len 0 (count i))) in
+    rw all (both_are ends first m fit y there)
 
 -- what fits at a node fits at the wires of that node
 pub fits_at : (c : Circuit) (a : ℕ) (m : Circuit) → Fitting c a m → FitsAt (ends_at (slice_get c.nodes a)) m

@@ -1,5 +1,4 @@
 pub mod Splice
 pub mod Refusals
-pub mod Renumbering
 pub mod Splices
-pub mod OnePass
+pub mod Mirror

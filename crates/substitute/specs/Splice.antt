@@ -27,8 +27,10 @@ unfoldable pub rank : (ℕ → Bool) → ℕ → ℕ
 rank f zero = 0
 rank f (suc n) = if f n then suc (rank f n) else rank f n
 
--- The number in the result of m's wire w, where m takes the place of a node with these wires at its ports in a network
--- with `first` wires: a wire at m's environment is fused with the wire at the node's port, and the inner wires come
+-- The number in the result of m's wire w, where m takes the place of a node with these wires at its ports
+-- in a network
+-- with `first` wires: a wire at m's environment is fused with the wire at the node's port, and the inner
+-- wires come
 -- after those of the network in their order.
 unfoldable pub renumber_at : List ℕ → ℕ → Circuit → ℕ → ℕ
 renumber_at ends first m w =

@@ -1,5 +1,5 @@
 -- Networks in the places of several nodes of another, one after the other.
-use Rattle.std.specs.Prelude.{◌≡◌, ℕ, suc, ◌+◌, ◌-◌, ◌<◌, Bool, IsTrue, List, [], ◌∷◌, ◌++◌, map, drop, length, ⊤, Option, None, Some}
+use Rattle.std.specs.Prelude.{ℕ, suc, ◌+◌, ◌-◌, Bool, IsTrue, List, [], ◌∷◌, ◌++◌, map, drop, length, ⊤, Option, None, Some}
 use Rattle.std.specs.Option.{IfSome}
 use Rattle.std.specs.List.{AllByRecursion}
 use Rattle.net_core.specs.declared.spec.NodeSpec.{NodeSpec}
@@ -8,7 +8,8 @@ use Rattle.net_core.specs.Networks.{IsClean, IsSpecified}
 use Rattle.net_core.specs.Renumbering.{sum_of_parts}
 use Rattle.substitute.specs.Splice.{spliced, Fitting}
 
--- Each part takes the place of its node, from node k on, and where there is no part the node stays. The node after a part
+-- Each part takes the place of its node, from node k on, and where there is no part the node stays. The
+-- node after a part
 -- stands behind the part's components.
 abbrev pub all_spliced : Circuit → ℕ → List (Option Circuit) → Circuit
 all_spliced c k [] = c

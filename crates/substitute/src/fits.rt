@@ -10,12 +10,13 @@ use crate::whole::{around, is_same};
 use net_core::{Net, closed, network_law};
 use std::alloc::{AllocError, Global};
 
-/// Whether each part may take the place of its node, an entry for each component, and the result has few enough
-/// wires: then `splice_all` may be called. It takes time for each wire and each port of the network and the parts.
+/// Whether each part may take the place of its node, an entry for each component, and the result has few
+/// enough wires: then `splice_all` may be called. The time is linear in the network and the parts.
 pub fn fits_each(alloc: Global, net: &Net, parts: &[Option<Net>]) -> Result<bool, AllocError>
     requires closed { IsClosed net.now }
     requires sized { length parts.now + 1 ≡ length net.now.nodes }
-    ensures { IfOk result (λ fits. IsTrue fits ↔ (FitEach net.now 1 parts.now × (net.now.wires + wires_in parts.now < 2 ^ 31))) }
+    ensures { IfOk result (λ fits. IsTrue fits
+        ↔ (FitEach net.now 1 parts.now × (net.now.wires + wires_in parts.now < 2 ^ 31))) }
 {
     if net.wires >= MANY {
         return Ok(false);

@@ -8,15 +8,16 @@ ghost use Rattle.net_core.specs.Networks.{IsClean, SoundFor, Correct};
 ghost use Rattle.net_core.specs.Renumbering.{sum_of_parts};
 ghost use Rattle.substitute.specs.Splice.{FitsAt};
 ghost use Rattle.substitute.specs.Splices.{all_spliced, FitEach, wires_in, EachPart, specs_in, specs_after, PassIn, PassAfter, sum_after};
-ghost use Rattle.substitute.specs.OnePass.{in_place, wires_with, all_in_place, wires_with_all};
+ghost use Rattle.substitute.specs.Mirror.OnePass.{in_place, wires_with, all_in_place, wires_with_all};
 
 use crate::parts::{Parts, new_parts};
 use net_core::{Net, Node, copy_spec, network_law};
 use std::alloc::{AllocError, Global};
 
-/// The network with each part in the place of its node, an entry for each component: node 1 has the first part,
-/// and where the entry is None the node stays. The result is that of one splice after the other, from the first node
-/// on, so the inner wires of the first part come after the network's wires, and then those of the next part.
+/// The network with each part in the place of its node, an entry for each component: node 1 has the first
+/// part, and where the entry is None the node stays. The result is that of one splice after the other, from
+/// the first node on: the inner wires of the first part come after the network's wires, and then those of
+/// the next part. The only error is want of memory; the time is linear in the network and the parts.
 pub fn splice_all(alloc: Global, net: &Net, parts: &[Option<Net>]) -> Result<Net, AllocError>
     requires closed { IsClosed net.now }
     requires sized { length parts.now + 1 ≡ length net.now.nodes }
@@ -25,13 +26,18 @@ pub fn splice_all(alloc: Global, net: &Net, parts: &[Option<Net>]) -> Result<Net
     ensures ok { IfOk result (λ whole. whole ≡ all_spliced net.now 1 parts.now) }
     ensures closed { IfOk result (λ whole. IsClosed whole) }
     ensures clean { IsClean net.now → EachPart IsClean parts.now → IfOk result (λ whole. IsClean whole) }
-    ensures sound { (s : NodeSpec) → SoundFor net.now s → EachPart (λ m. (t : NodeSpec) × SoundFor m t) parts.now
+    ensures sound { (s : NodeSpec) → SoundFor net.now s
+        → EachPart (λ m. (t : NodeSpec) × SoundFor m t) parts.now
         → IfOk result (λ whole. SoundFor whole s) }
-    ensures correct { (s : NodeSpec) → Correct net.now s → EachPart (λ m. (t : NodeSpec) × Correct m t) parts.now
+    ensures correct { (s : NodeSpec) → Correct net.now s
+        → EachPart (λ m. (t : NodeSpec) × Correct m t) parts.now
         → IfOk result (λ whole. Correct whole s) }
-    ensures components { IfOk result (λ whole. specs_in whole ≡ specs_after (drop 1 net.now.nodes) parts.now) }
-    ensures passing { (test : NodeSpec → Bool) → PassAfter test (drop 1 net.now.nodes) parts.now → IfOk result (λ whole. PassIn test whole) }
-    ensures sums { (f : NodeSpec → ℕ) → IfOk result (λ whole. sum_of_parts f whole ≡ sum_after f (drop 1 net.now.nodes) parts.now) }
+    ensures components { IfOk result
+        (λ whole. specs_in whole ≡ specs_after (drop 1 net.now.nodes) parts.now) }
+    ensures passing { (test : NodeSpec → Bool) → PassAfter test (drop 1 net.now.nodes) parts.now
+        → IfOk result (λ whole. PassIn test whole) }
+    ensures sums { (f : NodeSpec → ℕ)
+        → IfOk result (λ whole. sum_of_parts f whole ≡ sum_after f (drop 1 net.now.nodes) parts.now) }
 {
     network_law(net);
     let whole = put_all(alloc, net, parts)?;
@@ -43,7 +49,8 @@ fn put_all(alloc: Global, net: &Net, parts: &[Option<Net>]) -> Result<Parts, All
     requires sized { length parts.now + 1 ≡ length net.now.nodes }
     requires fitting { FitEach net.now 1 parts.now }
     requires few { net.now.wires + wires_in parts.now < 2 ^ 31 }
-    ensures nodes { IfOk result (λ whole. whole.nodes.items ≡ take 1 net.now.nodes ++ all_in_place net.now.wires (drop 1 net.now.nodes) parts.now) }
+    ensures nodes { IfOk result (λ whole. whole.nodes.items
+        ≡ take 1 net.now.nodes ++ all_in_place net.now.wires (drop 1 net.now.nodes) parts.now) }
     ensures wires { IfOk result (λ whole. whole.wires ≡ wires_with_all net.now.wires parts.now) }
 {
     let mut nodes = Vec::new(alloc);
@@ -68,7 +75,8 @@ fn put_next(
 ) -> Result<(), AllocError>
     requires fitting { IfSome part.now (FitsAt node.now.ends) }
     requires few { whole.old.wires + wires_in (part.now ∷ []) < 2 ^ 31 }
-    ensures nodes { OnOk result (whole.new.nodes.items ≡ whole.old.nodes.items ++ in_place whole.old.wires node.now part.now) }
+    ensures nodes { OnOk result (whole.new.nodes.items
+        ≡ whole.old.nodes.items ++ in_place whole.old.wires node.now part.now) }
     ensures wires { OnOk result (whole.new.wires ≡ wires_with whole.old.wires part.now) }
 {
     match part {

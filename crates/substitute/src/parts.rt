@@ -25,12 +25,13 @@ pub fn wires_of(net: &Net, node: u32) -> &[u32]
     &net.nodes[node as usize].wires
 }
 
-/// The components of `sub` with their numbers in the whole, where `sub` takes the place of a node with these wires
-/// at its ports, in a network of so many wires.
+/// The components of `sub` with their numbers in the whole, where `sub` takes the place of a node with
+/// these wires at its ports, in a network of so many wires.
 pub fn new_parts(alloc: Global, ends: &[u32], wires: u32, sub: &Net) -> Result<Parts, AllocError>
     requires fitting { FitsAt ends.now sub.now }
     requires few { wires + sub.now.wires < 2 ^ 31 }
-    ensures nodes { IfOk result (λ parts. parts.nodes.items ≡ map (moved (renumber_at ends.now wires sub.now)) (drop 1 sub.now.nodes)) }
+    ensures nodes { IfOk result (λ parts. parts.nodes.items
+        ≡ map (moved (renumber_at ends.now wires sub.now)) (drop 1 sub.now.nodes)) }
     ensures wires { IfOk result (λ parts. parts.wires ≡ wires + rank (is_inner sub.now) sub.now.wires) }
 {
     let numbers = new_numbers(alloc, ends, wires, sub)?;
@@ -45,7 +46,8 @@ pub fn new_parts(alloc: Global, ends: &[u32], wires: u32, sub: &Net) -> Result<P
 fn new_numbers(alloc: Global, ends: &[u32], wires: u32, sub: &Net) -> Result<Numbers, AllocError>
     requires fitting { FitsAt ends.now sub.now }
     requires few { wires + sub.now.wires < 2 ^ 31 }
-    ensures table { IfOk result (λ numbers. numbers.table.items ≡ map (renumber_at ends.now wires sub.now) (range_with_len 0 sub.now.wires)) }
+    ensures table { IfOk result (λ numbers. numbers.table.items
+        ≡ map (renumber_at ends.now wires sub.now) (range_with_len 0 sub.now.wires)) }
     ensures wires { IfOk result (λ numbers. numbers.wires ≡ wires + rank (is_inner sub.now) sub.now.wires) }
 {
     let fused = fused_wires(alloc, wires_of(sub, 0), ends, sub.wires)?;
@@ -55,7 +57,8 @@ fn new_numbers(alloc: Global, ends: &[u32], wires: u32, sub: &Net) -> Result<Num
 /// Copies of the components of a network, with the table's numbers for their wires.
 fn moved_parts(alloc: Global, sub: &Net, table: &[u32]) -> Result<Vec<Node>, AllocError>
     requires { length table.now ≡ sub.now.wires }
-    ensures { IfOk result (λ nodes. nodes.items ≡ map (moved (λ w. slice_index table.now w)) (drop 1 sub.now.nodes)) }
+    ensures { IfOk result (λ nodes. nodes.items
+        ≡ map (moved (λ w. slice_index table.now w)) (drop 1 sub.now.nodes)) }
 {
     moved_nodes(alloc, &sub.nodes[1..], table)
 }

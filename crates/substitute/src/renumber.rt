@@ -2,7 +2,7 @@ ghost use Rattle.std.specs.Prelude.{◌≡◌, ℕ, ◌+◌, ◌<◌, ◌≤◌,
 ghost use Rattle.std.specs.List.{AllByRecursion, range_with_len};
 ghost use Rattle.net_core.specs.Wiring.{Node, IsWired, count, moved};
 ghost use Rattle.substitute.specs.Refusals.{IsNone, IsLeast};
-ghost use Rattle.substitute.specs.Renumbering.{written, filled, after_filled};
+ghost use Rattle.substitute.specs.Mirror.Tables.{written, filled, after_filled};
 
 use net_core::{Node, moved_node};
 use std::alloc::{AllocError, Global};
@@ -10,7 +10,8 @@ use std::alloc::{AllocError, Global};
 /// How often each wire stands in the list.
 fn end_counts(alloc: Global, ends: &[u32], wires: u32) -> Result<Vec<usize>, AllocError>
     requires { AllByRecursion (λ w. w < wires) ends.now }
-    ensures { IfOk result (λ counts. (length counts.items ≡ wires) × ((w : ℕ) → w < wires → slice_index counts.items w ≡ count w ends.now)) }
+    ensures { IfOk result (λ counts. (length counts.items ≡ wires)
+        × ((w : ℕ) → w < wires → slice_index counts.items w ≡ count w ends.now)) }
 {
     let mut counts = vec![in alloc; 0usize; wires as usize]?;
     for wire in ends {
@@ -22,7 +23,8 @@ fn end_counts(alloc: Global, ends: &[u32], wires: u32) -> Result<Vec<usize>, All
 /// The least wire that stands in the list more than once.
 pub fn repeated(alloc: Global, ends: &[u32], wires: u32) -> Result<Option<u32>, AllocError>
     requires { AllByRecursion (λ w. w < wires) ends.now }
-    ensures { IfOk result (λ found. MatchOption found (IsNone (λ w. 1 < count w ends.now) wires) (λ w. IsLeast (λ w. 1 < count w ends.now) wires w)) }
+    ensures { IfOk result (λ found. MatchOption found (IsNone (λ w. 1 < count w ends.now) wires)
+        (λ w. IsLeast (λ w. 1 < count w ends.now) wires w)) }
 {
     let counts = end_counts(alloc, ends, wires)?;
     for wire in 0..wires {
@@ -42,7 +44,8 @@ pub fn fused_wires(
 ) -> Result<Vec<Option<u32>>, AllocError>
     requires sized { length others.now ≡ length ends.now }
     requires known { AllByRecursion (λ w. w < wires) ends.now }
-    ensures { IfOk result (λ fused. fused.items ≡ map (λ w. written ends.now others.now w None) (range_with_len 0 wires)) }
+    ensures { IfOk result (λ fused. fused.items
+        ≡ map (λ w. written ends.now others.now w None) (range_with_len 0 wires)) }
 {
     let mut fused = vec![in alloc; None; wires as usize]?;
     for (port, wire) in ends.iter().enumerate() {

@@ -41,9 +41,13 @@ pub fn splice(alloc: Global, net: Net, at: u32, sub: &Net) -> Result<Net, (Net, 
     ensures reason { IfErr result (λ refusal. Refuses net at sub.now refusal.1) }
     ensures closed { IfOk result (λ whole. IsClosed whole) }
     ensures clean { IsClean net → IsClean sub.now → IfOk result (λ whole. IsClean whole) }
-    ensures sound { (s t : NodeSpec) → SoundFor net s → SoundFor sub.now t → IfOk result (λ whole. SoundFor whole s) }
-    ensures correct { (s t : NodeSpec) → Correct net s → Correct sub.now t → IfOk result (λ whole. Correct whole s) }
-    ensures no_wire { IsClean net → IsClean sub.now → IfErr result (λ refusal. (refusal.1 ≡ SpliceRefusal.SpecDiffers) ⊎ (refusal.1 ≡ SpliceRefusal.NoMemory)) }
+    ensures sound { (s t : NodeSpec) → SoundFor net s → SoundFor sub.now t
+        → IfOk result (λ whole. SoundFor whole s) }
+    ensures correct { (s t : NodeSpec) → Correct net s → Correct sub.now t
+        → IfOk result (λ whole. Correct whole s) }
+    ensures no_wire { IsClean net → IsClean sub.now
+        → IfErr result
+        (λ refusal. (refusal.1 ≡ SpliceRefusal.SpecDiffers) ⊎ (refusal.1 ≡ SpliceRefusal.NoMemory)) }
 {
     put_in_place(alloc, net, at, sub)
 }
@@ -107,7 +111,8 @@ pub fn is_same(net: &Net, at: u32, sub: &Net) -> bool
 pub fn around(alloc: Global, net: &Net, node: u32) -> Result<Option<u32>, AllocError>
     requires closed { IsClosed net.now }
     requires inside { node < length net.now.nodes }
-    ensures { IfOk result (λ found. MatchOption found (IsNone (IsAround net.now node) net.now.wires) (λ w. IsLeast (IsAround net.now node) net.now.wires w)) }
+    ensures { IfOk result (λ found. MatchOption found (IsNone (IsAround net.now node) net.now.wires)
+        (λ w. IsLeast (IsAround net.now node) net.now.wires w)) }
 {
     repeated(alloc, wires_of(net, node), net.wires)
 }

@@ -1,6 +1,6 @@
 use Rattle.std.proofs.Common.{◌<◌, length, sym, ◌∙◌, ap, arith}
-use Rattle.cmd_text.specs.ScanView.{fault_of}
-use Rattle.cmd_text.specs.ReaderView.{spot_of, answer_behind}
+use Rattle.cmd_text.specs.Mirror.ScanView.{fault_of}
+use Rattle.cmd_text.specs.Mirror.ReaderView.{spot_of, answer_behind}
 use Rattle.cmd_text.proofs.WholeFile.{starts_so, carry, ends_finished}
 use Rattle.cmd_text.proofs.read.read_tokens.Goals as goal
 

@@ -1,6 +1,6 @@
 use Rattle.std.proofs.Common.{◌≡◌, ◌-◌, ◌≤◌, length}
-use Rattle.cmd_text.specs.Reading.{answer}
-use Rattle.cmd_text.specs.ReaderView.{spot_of, answer_from}
+use Rattle.cmd_text.specs.Mirror.Reading.{answer}
+use Rattle.cmd_text.specs.Mirror.ReaderView.{spot_of, answer_from}
 use Rattle.cmd_text.proofs.read.read_tokens.Given as goal
 
 abbrev pub invariant-loop-advanced : goal.invariant-loop-advanced

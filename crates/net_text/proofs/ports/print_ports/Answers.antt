@@ -3,7 +3,7 @@ use Rattle.std.proofs.lemmas.List.{drop_all}
 use Rattle.cmd_tree.specs.declared.tree.Proc.{Proc}
 use Rattle.cmd_tree.specs.Limits.{marks_of_proc, marks_of_all}
 use Rattle.di_io.proofs.Each.{rest_item}
-use Rattle.net_text.specs.Mirror.Ports.{Walked, walk_marks}
+use Rattle.net_text.specs.Mirror.Ports.{PortWalk, walk_marks}
 use Rattle.net_text.proofs.Walks.{walk_rest, walk_end, walk_all}
 use Rattle.net_text.proofs.ports.print_ports.Goals as goal
 
@@ -23,6 +23,6 @@ returns g c =
     let walked = walk_end names (c.loop-process.printer, c.loop-process.met) _ _ (ap marks_of_all none)
     c.loop-process.invariant in
     let whole = walk_all names c.args.printer.now 0 (marks_of_all procs) c.args.command.now.valid.numbered in
-    ap (λ (w : Walked). w.0) (walked
+    ap (λ (w : PortWalk). w.0) (walked
     ∙ ap (λ (ps : List Proc). walk_marks names (c.args.printer.now, 0) (marks_of_all ps)) c.as_slice-process-items.ensures
     ∙ whole)

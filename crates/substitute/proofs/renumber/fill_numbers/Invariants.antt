@@ -1,5 +1,5 @@
 use Rattle.std.proofs.Common.{◌≡◌, ◌+◌, ◌≤◌, ◌++◌, drop}
-use Rattle.substitute.specs.Renumbering.{filled, after_filled}
+use Rattle.substitute.specs.Mirror.Tables.{filled, after_filled}
 use Rattle.substitute.proofs.renumber.fill_numbers.Given as goal
 
 abbrev pub invariant-loop-number : goal.invariant-loop-number

@@ -1,5 +1,5 @@
 use Rattle.std.proofs.Common.{◌≡◌, ℕ, ◌<◌, length, get_or, drop, None}
-use Rattle.substitute.specs.Renumbering.{written}
+use Rattle.substitute.specs.Mirror.Tables.{written}
 use Rattle.substitute.proofs.renumber.fused_wires.Given as goal
 
 abbrev pub invariant-loop-port : goal.invariant-loop-port

@@ -1,0 +1,126 @@
+-- What the forms of words give where the contents of their files are told: one outcome, and Done exactly of those that they admit.
+use Rattle.std.proofs.Common.{◌≡◌, ◌≢◌, ◌<◌, ℕ, List, Option, Some, None, arith, refl, sym, ◌∙◌, subst, ap, length, inl, inr}
+use Rattle.std.proofs.lemmas.List.{take_all}
+use Rattle.std.specs.Prelude.{⊤}
+use Rattle.cmd_tree.specs.declared.tree.Proc.{Proc}
+use Rattle.di_top.specs.declared.outcome.Outcome.{Outcome}
+use Rattle.di_top.specs.declared.outcome.Outcome.TheVariants.{Done, Usage, NoMemory}
+use Rattle.di_top.specs.Requests.{Request, CompileWide, Check, files_of}
+use Rattle.di_top.specs.Calls.{Reading, Loaded, Unread, Quiet, Tells}
+use Rattle.di_top.specs.Forms.{Compiles}
+use Rattle.di_top.specs.CommandFiles as held
+use Rattle.di_top.specs.CommandFiles.{command_cap, StopsWith, IsAdmittedText, IsSuited, FileHolds, FileGives, Fault, Bytes, Taken, FileAdmits}
+use Rattle.di_top.specs.CompileForm.{CompileUses, CompileGives, CompileAdmits}
+use Rattle.di_top.specs.CheckForm.{CheckUses, CheckGives, CheckAdmits}
+use Rattle.di_top.specs.Outcomes.{FormGives, Gives, Prints, Admits}
+use Rattle.di_top.proofs.Stops.{loaded_whole, not_stopped, one_text, one_stop, stops_are_stops}
+use Rattle.di_top.proofs.Compiling.{compiles}
+
+pub some_same : (x y : List ℕ) (o : Option (List ℕ)) → o ≡ Some x → o ≡ Some y → x ≡ y
+some_same x y o e k = cc
+
+-- the file of an admitted command that suits
+holds_admits : (Suits : List Proc → Type 0) (r : Reading) (file : List ℕ) (names : List (List ℕ)) (procs : List Proc) → FileHolds r file names procs
+    → Suits procs → (all : List ℕ) → r.content file ≡ Some all → FileAdmits Suits r file
+holds_admits Suits r file names procs h s all told =
+    let P : List ℕ → Type 0 = λ b. IsAdmittedText b names procs in
+    let same : h.bytes ≡ all = loaded_whole r file h.bytes h.loaded h.admitted.source.read.few all told in
+    record { content = all; told = told; suited = record { names = names; procs = procs; text = subst P same h.admitted; suits = s } }
+
+file_only : (Used : List Proc → Outcome → Type 0) (Suits : List Proc → Type 0) → ((procs : List Proc) → Used procs Done → Suits procs)
+    → (r : Reading) (file : List ℕ) → FileGives Used r file Done → (all : List ℕ) → r.content file ≡ Some all → FileAdmits Suits r file
+file_only Used Suits suits r file (held.Stopped (Fault rose e)) all told = absurd (cc)
+file_only Used Suits suits r file (held.Stopped (Bytes bytes l s)) all told = absurd (stops_are_stops bytes Done s)
+file_only Used Suits suits r file (Taken names procs h u) all told = holds_admits Suits r file names procs h (suits procs u) all told
+
+compile_suits : (procs : List Proc) → CompileUses procs Done → Compiles procs
+compile_suits procs (inl (c, e)) = c
+compile_suits procs (inr (none, e)) = absurd (cc)
+
+compile_only : (r : Reading) (file : List ℕ) → CompileGives r file Done → (all : List ℕ) → r.content file ≡ Some all → CompileAdmits r file
+compile_only r file g all told = file_only CompileUses Compiles compile_suits r file g all told
+
+check_only : (r : Reading) (file : List ℕ) → CheckGives r file Done → (all : List ℕ) → r.content file ≡ Some all → CheckAdmits r file
+check_only r file g all told = file_only CheckUses (λ procs. ⊤) (λ procs u. tt) r file g all told
+
+pub gives_admitted : (request : Option Request) (r : Reading) → Gives request r Done → Tells r (files_of request) → Admits request r
+gives_admitted None r (inl e) t = absurd (cc)
+gives_admitted None r (inr e) t = absurd (cc)
+gives_admitted (Some (CompileWide file)) r (inl e) t = absurd (cc)
+gives_admitted (Some (CompileWide file)) r (inr g) t = compile_only r file g t.0.0 t.0.1
+gives_admitted (Some (Check file)) r (inl e) t = absurd (cc)
+gives_admitted (Some (Check file)) r (inr g) t = check_only r file g t.0.0 t.0.1
+
+pub prints_admitted : (request : Option Request) (r : Reading) (text : List ℕ) → Prints request r text → Tells r (files_of request) → Admits request r
+prints_admitted None r text p t = absurd p
+prints_admitted (Some (CompileWide file)) r text p t =
+    holds_admits Compiles r file p.command.names p.command.procs p.held (compiles p.command p.netlist.net p.netlist.compiled) t.0.0 t.0.1
+prints_admitted (Some (Check file)) r text p t = holds_admits (λ procs. ⊤) r file p.names p.procs p.held tt t.0.0 t.0.1
+
+
+-- ---- one outcome
+-- the bytes that are loaded of a content are the same each time
+one_load : (r : Reading) (file bytes others : List ℕ) → ((all : List ℕ) × (r.content file ≡ Some all)) → Loaded r file command_cap bytes
+    → Loaded r file command_cap others → bytes ≡ others
+one_load r file bytes others (all, told) l m = l.told all told ∙ sym (m.told all told)
+
+file_answer : (Used : List Proc → Outcome → Type 0) → ((procs : List Proc) (a b : Outcome) → Used procs a → Used procs b → a ≡ b)
+    → (r : Reading) (file : List ℕ) → ((all : List ℕ) × (r.content file ≡ Some all)) → (Unread r file → ⊥)
+    → (a b : Outcome) → FileGives Used r file a → FileGives Used r file b → a ≡ b
+file_answer Used once r file told quiet a b (held.Stopped (Fault rose e)) h = absurd (quiet rose)
+file_answer Used once r file told quiet a b (held.Stopped (Bytes bytes l s)) (held.Stopped (Fault rose e)) = absurd (quiet rose)
+file_answer Used once r file told quiet a b (held.Stopped (Bytes bytes l s)) (held.Stopped (Bytes others m t)) =
+    let P : List ℕ → Type 0 = λ x. StopsWith x a in
+    one_stop others a b (subst P (one_load r file bytes others told l m) s) t
+file_answer Used once r file told quiet a b (held.Stopped (Bytes bytes l s)) (Taken names procs h u) =
+    let P : List ℕ → Type 0 = λ x. StopsWith x a in
+    absurd (not_stopped h.bytes names procs a h.admitted (subst P (one_load r file bytes h.bytes told l h.loaded) s))
+file_answer Used once r file told quiet a b (Taken names procs h u) (held.Stopped (Fault rose e)) = absurd (quiet rose)
+file_answer Used once r file told quiet a b (Taken names procs h u) (held.Stopped (Bytes others m t)) =
+    let P : List ℕ → Type 0 = λ x. StopsWith x b in
+    absurd (not_stopped h.bytes names procs b h.admitted (subst P (one_load r file others h.bytes told m h.loaded) t))
+file_answer Used once r file told quiet a b (Taken names procs h u) (Taken others qrocs k v) =
+    let P : List ℕ → Type 0 = λ x. IsAdmittedText x names procs in
+    let Q : List Proc → Type 0 = λ ps. Used ps a in
+    let t : IsAdmittedText k.bytes names procs = subst P (one_load r file h.bytes k.bytes told h.loaded k.loaded) h.admitted in
+    once qrocs a b (subst Q (one_text k.bytes names others procs qrocs t k.admitted) u) v
+
+compile_once : (procs : List Proc) (a b : Outcome) → CompileUses procs a → CompileUses procs b → a ≡ b
+compile_once procs a b (inl (c, e)) (inl (d, h)) = e ∙ sym h
+compile_once procs a b (inl (c, e)) (inr (none, h)) = absurd (none c)
+compile_once procs a b (inr (none, e)) (inl (d, h)) = absurd (none d)
+compile_once procs a b (inr (none, e)) (inr (n, h)) = e ∙ sym h
+
+check_once : (procs : List Proc) (a b : Outcome) → CheckUses procs a → CheckUses procs b → a ≡ b
+check_once procs a b e h = e ∙ sym h
+
+pub one_answer : (request : Option Request) (r : Reading) → Tells r (files_of request) → Quiet r (files_of request)
+    → (a b : Outcome) → FormGives request r a → FormGives request r b → a ≡ b
+one_answer None r t q a b e h = e ∙ sym h
+one_answer (Some (CompileWide file)) r t q a b g h = file_answer CompileUses compile_once r file t.0 q.0 a b g h
+one_answer (Some (Check file)) r t q a b g h = file_answer CheckUses check_once r file t.0 q.0 a b g h
+
+-- ---- what is admitted is done
+-- the content of a file that is within the limit is loaded whole
+admits_holds : (Suits : List Proc → Type 0) (r : Reading) (file : List ℕ) (a : FileAdmits Suits r file)
+    → FileHolds r file a.suited.names a.suited.procs
+admits_holds Suits r file a = record {
+  bytes = a.content;
+  loaded = record {
+    most = omega (arith, a.suited.text.source.read.few);
+    told = λ all told. some_same a.content all (r.content file) a.told told
+        ∙ sym (take_all command_cap all (omega (arith, a.suited.text.source.read.few, ap length (some_same a.content all (r.content file) a.told told))));
+  };
+  admitted = a.suited.text;
+}
+
+pub admits_told : (request : Option Request) (r : Reading) → Admits request r → Tells r (files_of request)
+admits_told None r a = absurd a
+admits_told (Some (CompileWide file)) r a = ((a.content, a.told), tt)
+admits_told (Some (Check file)) r a = ((a.content, a.told), tt)
+
+pub admits_gives : (request : Option Request) (r : Reading) → Admits request r → FormGives request r Done
+admits_gives None r a = absurd a
+admits_gives (Some (CompileWide file)) r a =
+    Taken a.suited.names a.suited.procs (admits_holds Compiles r file a) (inl (a.suited.suits, refl))
+admits_gives (Some (Check file)) r a = Taken a.suited.names a.suited.procs (admits_holds (λ procs. ⊤) r file a) refl
