@@ -3,6 +3,7 @@ ghost use Rattle.std.specs.Prelude.{◌+◌, ◌<◌, ◌^◌};
 
 use basic_kinds::Kind;
 use net_core::{Net, NetBuilder, NodeSpec, OpenPort, closed, copy_spec, order, same_spec};
+use net_laws::forks;
 use std::alloc::{AllocError, Global};
 use std::process::Abort;
 use std::test::Fail;
@@ -79,5 +80,17 @@ fn a_copy_is_the_same_specification(rt: HostRuntime) -> Result<(), Fail> {
     let copy = copy_spec(alloc, &spec)?;
     assert!(rt; same_spec(&spec, &copy));
     assert!(rt; !same_spec(&copy, &NodeSpec::Kind(Kind::Fork(2))));
+    Ok(())
+}
+
+#[test]
+fn a_fork_stands_by_itself(rt: HostRuntime) -> Result<(), Fail> {
+    let alloc = rt.alloc();
+    let net = forks(alloc, NodeSpec::Kind(Kind::Fork(2)), 1, 2)?;
+    assert!(rt; closed(&net).is_none());
+    assert_eq!(rt; net.wires, 3);
+    assert_eq!(rt; net.nodes.len(), 2);
+    assert_eq!(rt; net.nodes[0].wires.as_slice(), [0, 1, 2].as_slice());
+    assert_eq!(rt; net.nodes[1].wires.as_slice(), [0, 1, 2].as_slice());
     Ok(())
 }

@@ -10,6 +10,7 @@ use crate::form::Form;
 use basic_kinds::Kind;
 use cmd_tree::Command;
 use net_core::{Net, NetBuilder, NodeSpec};
+use net_laws::numbers;
 use std::alloc::{AllocError, Global};
 
 /// The network of a text of the form: a WIRE, a C, a FORK, or a C and a FORK.
@@ -58,16 +59,4 @@ fn join_net(alloc: Global, command: Command, inputs: u32, outputs: u32) -> Resul
     fork_ends.append(&mut numbers(alloc, inputs, outputs)?)?;
     builder.node(NodeSpec::Kind(Kind::Fork(outputs)), fork_ends)?;
     builder.finish(numbers(alloc, 0, between)?)
-}
-
-/// So many numbers from one on.
-fn numbers(alloc: Global, from: u32, many: u32) -> Result<Vec<u32>, AllocError>
-    requires { from + many < 2 ^ 32 }
-    ensures { IfOk result (λ all. all.items ≡ range_with_len from many) }
-{
-    let mut all = Vec::new(alloc);
-    for count in 0..many {
-        all.push(from + count)?;
-    }
-    Ok(all)
 }

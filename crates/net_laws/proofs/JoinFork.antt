@@ -15,7 +15,7 @@ use Rattle.net_laws.specs.Charts.{Chart, charted}
 use Rattle.net_laws.specs.Implementing.{Implements}
 use Rattle.net_laws.specs.RoundsNets.{one_net, join_fork_net, rounds_net}
 use Rattle.net_laws.proofs.Webs as webs
-use Rattle.net_laws.proofs.Rounds.{Wire, In, Out, Mid, same_wire, wires_decide, AtRounds, AtJoin, AtSpread, two_web, two_driver, two_receiver, two_lawful, two_sound, two_exact}
+use Rattle.net_laws.proofs.JoinForkWeb.{Wire, In, Out, Mid, same_wire, wires_decide, AtRounds, AtJoin, AtSpread, two_web, two_driver, two_receiver, two_lawful, two_sound, two_exact}
 use Rattle.net_laws.proofs.Paths.{Hop, Path, here, hop}
 use Rattle.net_laws.proofs.Among.{Among, Distinct, all_among}
 use Rattle.net_laws.proofs.Routes.{Joined, Routes, routes_basic, routes_clean, routes_correct}

@@ -1,15 +1,14 @@
 pub mod Webs
 pub mod Told
 pub mod Woven
-pub mod GrownSums
-pub mod Relabel
-pub mod Rounds
+pub mod JoinForkWeb
 pub mod Paths
 pub mod Linked
 pub mod Among
 pub mod Routes
 pub mod Rows
 pub mod Rules
+pub mod KindRules
 pub mod JoinFork
 pub mod SideBySide
 pub mod ForkParts

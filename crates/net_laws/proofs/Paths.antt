@@ -1,10 +1,10 @@
 -- Nodes of a web that act as WIREs and are left out: one wire of a network stands for a path of wires of the web.
-use Rattle.std.proofs.Common.{◌≡◌, ℕ, suc, ◌+◌, ◌<◌, ◌≤◌, Bool, true, false, List, [], ◌∷◌, ◌++◌, ◌⊎◌, inl, inr, refl, sym, ap, subst, ◌∙◌, arith}
+use Rattle.std.proofs.Common.{◌≡◌, ℕ, suc, ◌<◌, ◌≤◌, Bool, true, false, List, [], ◌∷◌, ◌++◌, ◌⊎◌, inl, inr, refl, sym, ap, subst, ◌∙◌, arith}
 use Rattle.std.proofs.lemmas.Bool.{cases_lt}
 use Rattle.cmd_tree.specs.Rounds.{tally, naught}
 use Rattle.cmd_tree.proofs.RoundsRule.{follows_end, follows_last}
 use Rattle.net_laws.proofs.Webs.{Move, Send, Land, Web, Stage, longer, marked, May, begin, next, next_all, Ready, Safe, Plays, WebSound}
-use Rattle.net_laws.proofs.Told.{Lawful, sent, got, Longer, longer_is, longer_at, longer_away, marked_cases}
+use Rattle.net_laws.proofs.Told.{Lawful, sent, got, Longer, longer_is, longer_away, marked_cases}
 use Rattle.net_laws.proofs.Woven.{Grew, grew_same, grew_other, grew_le, sent_grew, got_grew, got_same, sent_same}
 
 -- how often a wire is in a trace

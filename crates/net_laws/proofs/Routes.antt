@@ -8,10 +8,9 @@ use Rattle.std.proofs.lemmas.List.{length-map, get_or-map, get_or_past, get_or_d
 use Rattle.std.proofs.lemmas.List.FromFn.{length-range_with_len}
 use Rattle.std.proofs.lemmas.Option.{slice_get-map, slice_get-get_or}
 use Rattle.cmd_tree.specs.Rounds.{Follows}
-use Rattle.net_core.specs.declared.spec.NodeSpec.{NodeSpec}
 use Rattle.net_core.specs.Specs.{outs_of, IsFormed, May, is_kind}
 use Rattle.net_core.specs.Wiring.{Node, Circuit, IsWired, IsNetwork, IsClosed}
-use Rattle.net_core.specs.Networks.{directions_at, directions, gives, takes, end_of, end_at, end_node, end_port, may_of, fabric, Once, IsBasic, IsClean, SoundFor, Correct}
+use Rattle.net_core.specs.Networks.{directions, gives, takes, end_of, end_at, end_node, end_port, may_of, fabric, Once, IsBasic, IsClean, SoundFor, Correct}
 use Rattle.net_core.proofs.Ends.{later_same, outs_at, closed_by_counts}
 use Rattle.net_core.proofs.Found.{Located, gives_there, takes_there, gives_located, takes_located, node_of_wire, port_of_wire, ranged}
 use Rattle.net_laws.specs.Charts.{Chart, node_of, charted}

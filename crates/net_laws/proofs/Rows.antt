@@ -11,11 +11,6 @@ use Rattle.net_laws.proofs.Routes.{Joined}
 abbrev pub row : {A : Type 0} → (ℕ → A) → ℕ → List A
 row f k = map f (range_with_len 0 k)
 
--- the list, or nothing
-abbrev pub only : {A : Type 0} → Bool → List A → List A
-only true xs = xs
-only false xs = []
-
 -- ---- members of a row
 
 among_from : {A : Type 0} (f : ℕ → A) (a k : ℕ) (x : A) → Among x (map f (range_with_len a k)) → (i : ℕ) × (a ≤ i) × (i < a + k) × (x ≡ f i)

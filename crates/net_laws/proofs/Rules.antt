@@ -32,11 +32,11 @@ module _ {W : Type 0} (same : W → W → Bool) (decides : Decides same) (ports 
   agree_tally c e h [] all = h
   agree_tally c e h (q ∷ u) all = agree_tally (grown same_number c q) (grown same e (label q)) (agree_grown c e h q all.0) u all.1
 
+  pub agree_at : (u : List ℕ) → AllByRecursion (λ p. p < length ports) u → Agree (counts u) (tally same naught (map label u))
+  agree_at u all = agree_tally naught naught (λ p low. refl) u all
+
   module _ (K : (ℕ → ℕ) → ℕ → Type 0) (R : (W → ℕ) → W → Type 0) (inside : (c : ℕ → ℕ) (p : ℕ) → K c p → p < length ports) (never : (e : W → ℕ) → R e nothing → ⊥)
       (agree : (c : ℕ → ℕ) (e : W → ℕ) → Agree c e → (p : ℕ) → p < length ports → K c p ↔ R e (label p)) where
-    agree_at : (u : List ℕ) → AllByRecursion (λ p. p < length ports) u → Agree (counts u) (tally same naught (map label u))
-    agree_at u all = agree_tally naught naught (λ p low. refl) u all
-
     there : (u : List ℕ) → AllByRecursion (λ p. p < length ports) u → (t : List ℕ) → Follows (λ v p. K (counts v) p) u t
         → Follows (λ v w. R (tally same naught v) w) (map label u) (map label t)
     there u all [] f = tt

@@ -6,7 +6,7 @@ use Rattle.std.proofs.lemmas.Bool.{cases_lt}
 use Rattle.std.proofs.lemmas.List.{map-append, get_or_append_left, get_or-append_right}
 use Rattle.std.proofs.lemmas.List.FromFn.{length-map-range_with_len, get_or-map-range_with_len}
 use native.Mathlib.Decide.{ℕ_discrete}
-use Rattle.cmd_tree.specs.Rounds.{same_number, tally, naught, counts, Rounds}
+use Rattle.cmd_tree.specs.Rounds.{same_number, tally, naught, Rounds}
 use Rattle.cmd_tree.proofs.RoundsPorts.{rounds_ports}
 use Rattle.basic_kinds.specs.declared.kind.Kind.TheVariants as kind
 use Rattle.net_core.specs.declared.spec.NodeSpec.{NodeSpec}
@@ -15,11 +15,11 @@ use Rattle.net_core.specs.Specs.{sides, outs_of, IsFormed, May, is_kind}
 use Rattle.net_core.specs.Wiring.{Node, Circuit}
 use Rattle.net_laws.specs.Charts.{Chart, node_of, charted}
 use Rattle.net_laws.specs.Implementing.{Implements}
-use Rattle.net_laws.specs.ForksNets.{ForksAt, Forks, fork_part, fork_parts, forks_net}
+use Rattle.net_laws.specs.ForksNets.{ForksAt, Forks, fork_part, forks_net}
 use Rattle.net_laws.proofs.Webs.{Web, numbers_decide, Decides, test, test_decides, WebSound, WebExact}
 use Rattle.net_laws.proofs.Webs as webs
 use Rattle.net_laws.proofs.Told.{Lawful, Flows}
-use Rattle.net_laws.proofs.Woven.{Grew, grew_same, grew_le, grew_other, Reads, Counting, Keeps, Draws, give, show, web_sound, web_exact}
+use Rattle.net_laws.proofs.Woven.{Grew, grew_le, grew_other, Reads, Counting, Keeps, Draws, give, show, web_sound, web_exact}
 use Rattle.net_laws.proofs.Paths.{Path, here}
 use Rattle.net_laws.proofs.Among.{Among, Distinct, all_among}
 use Rattle.net_laws.proofs.Routes.{Joined, Routes, routes_basic, routes_clean, routes_correct}
@@ -166,9 +166,6 @@ ports_at k m (suc n) = Req n ∷ row (Put n) m
 
 one_put : (i j a b : ℕ) → Put i j ≡ Put a b → (i ≡ a) × (j ≡ b)
 one_put i j a b e = (cc, cc)
-
-req_put : (k m i : ℕ) → Among (Req i) (rows Put k m) → ⊥
-req_put k m i a = let (b, o, low, in_row, e) = among_rows Put m k (Req i) a in cc
 
 env_distinct : (k m : ℕ) → Distinct (row Req k ++ rows Put k m)
 env_distinct k m = distinct_both (row Req k) (rows Put k m) (distinct_row Req (λ i j e. cc) k) (distinct_rows Put m one_put k)

@@ -31,13 +31,6 @@ grew_le F w G h v = at (h v)
     at (inl (p, x)) = omega arith
     at (inr (p, x)) = omega arith
 
-pub grew_more : {W : Type 0} (F : W → ℕ) (w : W) (G : W → ℕ) → Grew F w G → (v : W) → G v ≤ suc (F v)
-grew_more F w G h v = at (h v)
-  where
-    at : ((v ≡ w) × (G v ≡ suc (F v))) ⊎ ((v ≡ w → ⊥) × (G v ≡ F v)) → G v ≤ suc (F v)
-    at (inl (p, x)) = omega arith
-    at (inr (p, x)) = omega arith
-
 pub grew_unique : {W : Type 0} (F : W → ℕ) (w : W) (G H : W → ℕ) → Grew F w G → Grew F w H → (v : W) → G v ≡ H v
 grew_unique F w G H g h v = at (g v)
   where

@@ -1,4 +1,4 @@
-use Rattle.std.proofs.Common.{◌+◌, ◌∷◌, [], ◌++◌, ℕ, List, ap, sym, ◌∙◌}
+use Rattle.std.proofs.Common.{◌+◌, ◌∷◌, [], ◌++◌, ℕ, List, ap, ◌∙◌}
 use Rattle.net_laws.proofs.Rows.{range_both}
 use Rattle.net_laws.proofs.side_by_side.numbers.Goals as goal
 

@@ -1,4 +1,4 @@
--- The web of one component by the rule of rounds and the web of a join and a spread in a row: sound and exact, for any numbers of inputs and outputs.
+-- The web of a join and a spread in a row, for any numbers of inputs and outputs: it is sound and exact.
 use Rattle.std.proofs.Common.{◌≡◌, ℕ, zero, suc, ◌<◌, ◌≤◌, Bool, ◌⊎◌, inl, inr, refl, sym, ap, subst, arith}
 use Rattle.std.proofs.lemmas.Bool.{cases_lt}
 use native.Mathlib.Decide.{ℕ_discrete}
@@ -38,30 +38,6 @@ AtSpread m c (In i) = ⊥
 AtSpread m c (Out j) = (j < m) × (c (Out j) < c Mid)
 AtSpread m c Mid = (j : ℕ) → j < m → c Mid ≡ c (Out j)
 
--- One component. The outside and the component have the same rule.
-abbrev pub one_driver : Wire → ℕ
-one_driver (In i) = 0
-one_driver (Out j) = 1
-one_driver Mid = 0
-
-abbrev pub one_receiver : Wire → ℕ
-one_receiver (In i) = 1
-one_receiver (Out j) = 0
-one_receiver Mid = 1
-
-abbrev pub OneRule : ℕ → ℕ → ℕ → (Wire → ℕ) → Wire → Type 0
-OneRule n m k c w = AtRounds n m c w
-
-abbrev pub one_web : ℕ → ℕ → Web ℕ Wire
-one_web n m = record {
-  same_node = same_number;
-  same_wire = same_wire;
-  driver = one_driver;
-  receiver = one_receiver;
-  outside = 0;
-  rule = λ k t w. OneRule n m k (tally same_wire naught t) w;
-}
-
 -- A join and a spread.
 abbrev pub two_driver : Wire → ℕ
 two_driver (In i) = 0
@@ -89,86 +65,8 @@ two_web n m = record {
 }
 
 module _ (n m : ℕ) (some_in : 0 < n) (some_out : 0 < m) where
-  pub one_lawful : Lawful ℕ Wire (one_web n m)
-  one_lawful = record { nodes = numbers_decide; wires = wires_decide; clean = clean }
-    where
-      clean : (w : Wire) → one_driver w ≡ one_receiver w → ⊥
-      clean (In i) e = omega arith
-      clean (Out j) e = omega arith
-      clean Mid e = omega arith
-
-  one_counting : Counting ℕ Wire (one_web n m) (OneRule n m)
-  one_counting = record { there = λ k t w h. h; back = λ k t w h. h }
-
-  -- the wires that are there
-  abbrev OneIn : Wire → Type 0
-  OneIn (In i) = i < n
-  OneIn (Out j) = j < m
-  OneIn Mid = ⊥
-
-  record One (F P : Wire → ℕ) : Type 0 where
-    row : (i j : ℕ) → i < n → j < m → F (In i) ≤ suc (P (Out j))
-    col : (i j : ℕ) → i < n → j < m → F (Out j) ≤ P (In i)
-
-  one_sends : (F P c : Wire → ℕ) (w : Wire) → Flows F P → One F P → Reads ℕ Wire (one_web n m) (one_driver w) c F P → OneRule n m (one_driver w) c w
-      → OneIn w × (F w ≡ P w) × ((G : Wire → ℕ) → Grew F w G → One G P)
-  one_sends F P c (In i) f h a r = (
-    r.0,
-    omega (arith, h.col i 0 r.0 some_out, r.1 0 some_out, a.sent (In i) refl, a.got (Out 0) refl, f (Out 0), f (In i)),
-    λ G g. record { row = λ k j x y. row G g k j x y (g (In k)); col = λ k j x y. subst (λ z. z ≤ P (In k)) (sym (grew_other F (In i) G g (Out j) (λ e. cc))) (h.col k j x y) },
-  )
-    where
-      row : (G : Wire → ℕ) → Grew F (In i) G → (k j : ℕ) → k < n → j < m
-          → ((In k ≡ In i) × (G (In k) ≡ suc (F (In k)))) ⊎ ((In k ≡ In i → ⊥) × (G (In k) ≡ F (In k))) → G (In k) ≤ suc (P (Out j))
-      row G g k j x y (inl (p, e)) = omega (arith, ap F p, r.1 j y, a.sent (In i) refl, a.got (Out j) refl)
-      row G g k j x y (inr (p, e)) = omega (arith, h.row k j x y)
-  one_sends F P c (Out j) f h a r = (
-    r.0,
-    omega (arith, h.row 0 j some_in r.0, r.1 0 some_in, a.sent (Out j) refl, a.got (In 0) refl, f (Out j), f (In 0)),
-    λ G g. record { row = λ i k x y. subst (λ z. z ≤ suc (P (Out k))) (sym (grew_other F (Out j) G g (In i) (λ e. cc))) (h.row i k x y); col = λ i k x y. col G g i k x y (g (Out k)) },
-  )
-    where
-      col : (G : Wire → ℕ) → Grew F (Out j) G → (i k : ℕ) → i < n → k < m
-          → ((Out k ≡ Out j) × (G (Out k) ≡ suc (F (Out k)))) ⊎ ((Out k ≡ Out j → ⊥) × (G (Out k) ≡ F (Out k))) → G (Out k) ≤ P (In i)
-      col G g i k x y (inl (p, e)) = omega (arith, ap F p, r.1 i x, a.sent (Out j) refl, a.got (In i) refl)
-      col G g i k x y (inr (p, e)) = omega (arith, h.col i k x y)
-  one_sends F P c Mid f h a r = absurd r
-
-  one_lands : (F P c : Wire → ℕ) (w : Wire) → Flows F P → One F P → Reads ℕ Wire (one_web n m) (one_receiver w) c F P → OneIn w → F w ≡ suc (P w)
-      → OneRule n m (one_receiver w) c w × ((Q : Wire → ℕ) → Grew P w Q → One F Q)
-  one_lands F P c w f h a x e = (
-    takes w x e a,
-    λ Q g. record {
-      row = λ i j x y. omega (arith, h.row i j x y, grew_le P w Q g (Out j));
-      col = λ i j x y. omega (arith, h.col i j x y, grew_le P w Q g (In i));
-    },
-  )
-    where
-      takes : (w : Wire) → OneIn w → F w ≡ suc (P w) → Reads ℕ Wire (one_web n m) (one_receiver w) c F P → OneRule n m (one_receiver w) c w
-      takes (In i) x e a = (x, λ j y. omega (arith, h.row i j x y, h.col i j x y, f (Out j), a.got (In i) refl, a.sent (Out j) refl))
-      takes (Out j) x e a = (x, λ i y. omega (arith, h.col i j y x, f (In i), a.got (Out j) refl, a.sent (In i) refl))
-      takes Mid x e a = absurd x
-
-  one_keeps : Keeps ℕ Wire (one_web n m) (OneRule n m) OneIn One
-  one_keeps = record {
-    begins = λ F P f p. record { row = λ i j x y. omega (arith, f (In i)); col = λ i j x y. omega (arith, f (Out j)) };
-    sends = one_sends;
-    lands = one_lands;
-  }
-
   abbrev Always : (Wire → ℕ) → Type 0
   Always x = Unit {0}
-
-  one_draws : (x c : Wire → ℕ) (q : Wire) → One x x → Always x → Reads ℕ Wire (one_web n m) 0 c x x → OneRule n m 0 c q → Draws ℕ Wire (one_web n m) (OneRule n m) One Always q x
-  one_draws x c (In i) h j a r = give refl (λ y g k. tt)
-  one_draws x c (Out o) h j a r = show refl (λ b z. (r.0, λ i y. omega (arith, r.1 i y, a.got (Out o) refl, a.sent (In i) refl, z.sent (Out o) refl, z.got (In i) refl))) (λ y g k. tt)
-  one_draws x c Mid h j a r = absurd r
-
-  pub one_sound : WebSound (one_web n m)
-  one_sound = web_sound ℕ Wire (one_web n m) (OneRule n m) OneIn One one_lawful one_counting one_keeps
-
-  pub one_exact : WebExact (one_web n m)
-  one_exact = web_exact ℕ Wire (one_web n m) (OneRule n m) OneIn One Always one_lawful one_counting one_keeps tt one_draws
 
   pub two_lawful : Lawful ℕ Wire (two_web n m)
   two_lawful = record { nodes = numbers_decide; wires = wires_decide; clean = clean }
