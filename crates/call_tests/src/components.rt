@@ -163,66 +163,120 @@ fn spliced(
     }
 }
 
-fn refusal(rt: &impl Abort, alloc: Global, net: Net, at: u32, sub: &Net) -> Option<SpliceRefusal> {
-    spliced(rt, alloc, net, at, sub).err()
+fn refuses(rt: &impl Abort, alloc: Global, net: Net, at: u32, sub: Net, refusal: SpliceRefusal) {
+    assert_eq!(rt; spliced(rt, alloc, net, at, &sub).err(), Some(refusal));
+}
+
+fn has_ends(rt: &impl Abort, net: &Net, node: usize, ends: [u32; 2]) {
+    assert!(rt; node < net.nodes.len());
+    assert_eq!(rt; net.nodes[node].wires.as_slice(), ends.as_slice());
+}
+
+/// A network of one component with the command `pref*[a?;b!]`.
+fn one_command(alloc: Global) -> Result<Net, AllocError> {
+    let inside = command(alloc)?;
+    one_component(alloc, NodeSpec::Kind(Kind::Wire), inside)
+}
+
+/// A WIRE in an environment of the command `pref*[a?;b!]`.
+fn wire_for_a_command(alloc: Global) -> Result<Net, AllocError> {
+    let outside = command(alloc)?;
+    one_component(alloc, outside, NodeSpec::Kind(Kind::Wire))
 }
 
 #[test]
-fn refuses_with_the_network_back(rt: HostRuntime) -> Result<(), Fail> {
+fn another_kind_is_refused(rt: HostRuntime) -> Result<(), Fail> {
     let alloc = rt.alloc();
-    let wire = wires_in_a_row(alloc, 1)?;
-    let iwire = one_component(
+    let sub = wires_in_a_row(alloc, 1)?;
+    let net = one_component(
         alloc,
         NodeSpec::Kind(Kind::Wire),
         NodeSpec::Kind(Kind::Iwire),
     )?;
-    assert_eq!(rt;
-        refusal(&rt, alloc, iwire, 1, &wire),
-        Some(SpliceRefusal::SpecDiffers)
-    );
-    let through = straight(alloc, NodeSpec::Kind(Kind::Wire))?;
-    let one = wires_in_a_row(alloc, 1)?;
-    assert_eq!(rt;
-        refusal(&rt, alloc, one, 1, &through),
-        Some(SpliceRefusal::ThroughWire { wire: 0 })
-    );
-    let around = with_a_loop(alloc, NodeSpec::Kind(Kind::Wire))?;
-    assert_eq!(rt;
-        refusal(&rt, alloc, around, 2, &wire),
-        Some(SpliceRefusal::SelfWire { wire: 2 })
+    refuses(&rt, alloc, net, 1, sub, SpliceRefusal::SpecDiffers);
+    Ok(())
+}
+
+#[test]
+fn a_through_wire_is_refused(rt: HostRuntime) -> Result<(), Fail> {
+    let alloc = rt.alloc();
+    let sub = straight(alloc, NodeSpec::Kind(Kind::Wire))?;
+    let net = wires_in_a_row(alloc, 1)?;
+    refuses(
+        &rt,
+        alloc,
+        net,
+        1,
+        sub,
+        SpliceRefusal::ThroughWire { wire: 0 },
     );
     Ok(())
 }
 
 #[test]
-fn refuses_at_a_node_with_a_command(rt: HostRuntime) -> Result<(), Fail> {
+fn a_self_wire_is_refused(rt: HostRuntime) -> Result<(), Fail> {
     let alloc = rt.alloc();
-    let turned = one_turned(alloc)?;
-    let other = one_component(alloc, NodeSpec::Kind(Kind::Wire), command(alloc)?)?;
-    assert_eq!(rt;
-        refusal(&rt, alloc, other, 1, &turned),
-        Some(SpliceRefusal::SpecDiffers)
+    let sub = wires_in_a_row(alloc, 1)?;
+    let net = with_a_loop(alloc, NodeSpec::Kind(Kind::Wire))?;
+    refuses(&rt, alloc, net, 2, sub, SpliceRefusal::SelfWire { wire: 2 });
+    Ok(())
+}
+
+#[test]
+fn another_command_is_refused(rt: HostRuntime) -> Result<(), Fail> {
+    let alloc = rt.alloc();
+    let sub = one_turned(alloc)?;
+    let net = one_command(alloc)?;
+    refuses(&rt, alloc, net, 1, sub, SpliceRefusal::SpecDiffers);
+    Ok(())
+}
+
+#[test]
+fn a_kind_is_refused_for_a_command(rt: HostRuntime) -> Result<(), Fail> {
+    let alloc = rt.alloc();
+    let sub = wires_in_a_row(alloc, 1)?;
+    let net = one_command(alloc)?;
+    refuses(&rt, alloc, net, 1, sub, SpliceRefusal::SpecDiffers);
+    Ok(())
+}
+
+#[test]
+fn a_through_wire_is_refused_at_a_command(rt: HostRuntime) -> Result<(), Fail> {
+    let alloc = rt.alloc();
+    let outside = command(alloc)?;
+    let sub = straight(alloc, outside)?;
+    let net = one_command(alloc)?;
+    refuses(
+        &rt,
+        alloc,
+        net,
+        1,
+        sub,
+        SpliceRefusal::ThroughWire { wire: 0 },
     );
-    let wire = wires_in_a_row(alloc, 1)?;
-    let other = one_component(alloc, NodeSpec::Kind(Kind::Wire), command(alloc)?)?;
-    assert_eq!(rt;
-        refusal(&rt, alloc, other, 1, &wire),
-        Some(SpliceRefusal::SpecDiffers)
-    );
-    let through = straight(alloc, command(alloc)?)?;
-    let one = one_component(alloc, NodeSpec::Kind(Kind::Wire), command(alloc)?)?;
-    assert_eq!(rt;
-        refusal(&rt, alloc, one, 1, &through),
-        Some(SpliceRefusal::ThroughWire { wire: 0 })
-    );
-    let sub = one_component(alloc, command(alloc)?, NodeSpec::Kind(Kind::Wire))?;
-    let around = with_a_loop(alloc, command(alloc)?)?;
-    assert_eq!(rt;
-        refusal(&rt, alloc, around, 2, &sub),
-        Some(SpliceRefusal::SelfWire { wire: 2 })
-    );
-    let one = one_component(alloc, NodeSpec::Kind(Kind::Wire), command(alloc)?)?;
-    assert_eq!(rt; refusal(&rt, alloc, one, 1, &sub), None);
+    Ok(())
+}
+
+#[test]
+fn a_self_wire_is_refused_at_a_command(rt: HostRuntime) -> Result<(), Fail> {
+    let alloc = rt.alloc();
+    let sub = wire_for_a_command(alloc)?;
+    let around = command(alloc)?;
+    let net = with_a_loop(alloc, around)?;
+    refuses(&rt, alloc, net, 2, sub, SpliceRefusal::SelfWire { wire: 2 });
+    Ok(())
+}
+
+#[test]
+fn splices_at_a_command(rt: HostRuntime) -> Result<(), Fail> {
+    let alloc = rt.alloc();
+    let sub = wire_for_a_command(alloc)?;
+    let net = one_command(alloc)?;
+    let Ok(whole) = spliced(&rt, alloc, net, 1, &sub) else {
+        panic!(rt; "refused");
+    };
+    has_ends(&rt, &whole, 1, [0, 1]);
+    assert_eq!(rt; whole.nodes.len(), 2);
     Ok(())
 }
 
@@ -230,7 +284,8 @@ fn refuses_at_a_node_with_a_command(rt: HostRuntime) -> Result<(), Fail> {
 fn splices_into_a_spliced_network(rt: HostRuntime) -> Result<(), Fail> {
     let alloc = rt.alloc();
     let two = wires_in_a_row(alloc, 2)?;
-    let Ok(once) = spliced(&rt, alloc, wires_in_a_row(alloc, 1)?, 1, &two) else {
+    let one = wires_in_a_row(alloc, 1)?;
+    let Ok(once) = spliced(&rt, alloc, one, 1, &two) else {
         panic!(rt; "refused");
     };
     assert_eq!(rt; once.wires, 3);
@@ -238,11 +293,10 @@ fn splices_into_a_spliced_network(rt: HostRuntime) -> Result<(), Fail> {
         panic!(rt; "refused");
     };
     assert_eq!(rt; twice.wires, 4);
-    let ends = [[0, 1], [0, 2], [2, 3], [3, 1]];
-    assert_eq!(rt; twice.nodes.len(), ends.len());
-    for (node, wires) in twice.nodes.iter().zip(ends.iter()) {
-        assert_eq!(rt; node.wires.as_slice(), wires.as_slice());
-    }
+    assert_eq!(rt; twice.nodes.len(), 4);
+    has_ends(&rt, &twice, 1, [0, 2]);
+    has_ends(&rt, &twice, 2, [2, 3]);
+    has_ends(&rt, &twice, 3, [3, 1]);
     Ok(())
 }
 
@@ -263,73 +317,98 @@ fn with_parts(
 fn parts_take_the_places_of_their_own_nodes(rt: HostRuntime) -> Result<(), Fail> {
     let alloc = rt.alloc();
     let net = wires_in_a_row(alloc, 4)?;
-    let two = wires_in_a_row(alloc, 2)?;
-    let three = wires_in_a_row(alloc, 3)?;
-    let parts = vec![in alloc; None, Some(two), None, Some(three)]?;
+    let mut parts = Vec::new(alloc);
+    parts.push(None)?;
+    parts.push(Some(wires_in_a_row(alloc, 2)?))?;
+    parts.push(None)?;
+    parts.push(Some(wires_in_a_row(alloc, 3)?))?;
     let whole = with_parts(&rt, alloc, &net, &parts)?;
     assert_eq!(rt; whole.wires, 8);
-    let ends = [
-        [0, 4],
-        [0, 1],
-        [1, 5],
-        [5, 2],
-        [2, 3],
-        [3, 6],
-        [6, 7],
-        [7, 4],
-    ];
-    assert_eq!(rt; whole.nodes.len(), ends.len());
-    for (node, wires) in whole.nodes.iter().zip(ends.iter()) {
-        assert_eq!(rt; node.wires.as_slice(), wires.as_slice());
-    }
+    assert_eq!(rt; whole.nodes.len(), 8);
+    has_ends(&rt, &whole, 1, [0, 1]);
+    has_ends(&rt, &whole, 2, [1, 5]);
+    has_ends(&rt, &whole, 3, [5, 2]);
+    has_ends(&rt, &whole, 4, [2, 3]);
+    has_ends(&rt, &whole, 5, [3, 6]);
+    has_ends(&rt, &whole, 6, [6, 7]);
+    has_ends(&rt, &whole, 7, [7, 4]);
+    Ok(())
+}
+
+/// Whether the part fits at the WIRE of `with_a_loop`, or at its loop.
+fn fits_beside_a_loop(
+    rt: &impl Abort,
+    alloc: Global,
+    part: Net,
+    at_loop: bool,
+) -> Result<bool, AllocError> {
+    let net = with_a_loop(alloc, NodeSpec::Kind(Kind::Wire))?;
+    assert!(rt; closed(&net).is_none());
+    assert_eq!(rt; net.nodes.len(), 3);
+    let parts = if at_loop {
+        [None, Some(part)]
+    } else {
+        [Some(part), None]
+    };
+    fits_each(alloc, &net, &parts)
+}
+
+#[test]
+fn a_part_fits_at_a_wire_and_not_at_a_loop(rt: HostRuntime) -> Result<(), Fail> {
+    let alloc = rt.alloc();
+    let two = wires_in_a_row(alloc, 2)?;
+    let fits = fits_beside_a_loop(&rt, alloc, two, false)?;
+    assert!(rt; fits);
+    let two = wires_in_a_row(alloc, 2)?;
+    let fits = fits_beside_a_loop(&rt, alloc, two, true)?;
+    assert!(rt; !fits);
     Ok(())
 }
 
 #[test]
-fn parts_that_do_not_fit_are_found(rt: HostRuntime) -> Result<(), Fail> {
+fn a_part_with_a_through_wire_does_not_fit(rt: HostRuntime) -> Result<(), Fail> {
     let alloc = rt.alloc();
-    let net = with_a_loop(alloc, NodeSpec::Kind(Kind::Wire))?;
-    assert!(rt; closed(&net).is_none());
-    assert_eq!(rt; net.nodes.len(), 3);
     let through = straight(alloc, NodeSpec::Kind(Kind::Wire))?;
-    let iwire = one_component(
+    let fits = fits_beside_a_loop(&rt, alloc, through, false)?;
+    assert!(rt; !fits);
+    Ok(())
+}
+
+#[test]
+fn a_part_of_another_kind_does_not_fit(rt: HostRuntime) -> Result<(), Fail> {
+    let alloc = rt.alloc();
+    let other = one_component(
         alloc,
         NodeSpec::Kind(Kind::Iwire),
         NodeSpec::Kind(Kind::Iwire),
     )?;
-    let first = [Some(wires_in_a_row(alloc, 2)?), None];
-    assert!(rt; fits_each(alloc, &net, &first)?);
-    let around = [None, Some(wires_in_a_row(alloc, 2)?)];
-    assert!(rt; !fits_each(alloc, &net, &around)?);
-    let passed = [Some(through), None];
-    assert!(rt; !fits_each(alloc, &net, &passed)?);
-    let other = [Some(iwire), None];
-    assert!(rt; !fits_each(alloc, &net, &other)?);
+    let fits = fits_beside_a_loop(&rt, alloc, other, false)?;
+    assert!(rt; !fits);
     Ok(())
+}
+
+/// A chain of three for each WIRE.
+fn chains(alloc: Global, many: u32) -> Result<Vec<Option<Net>>, AllocError> {
+    let mut parts = Vec::new(alloc);
+    for _ in 0..many {
+        let chain = wires_in_a_row(alloc, 3)?;
+        parts.push(Some(chain))?;
+    }
+    Ok(parts)
 }
 
 #[test]
 fn many_parts_in_time(rt: HostRuntime) -> Result<(), Fail> {
     let alloc = rt.alloc();
     let net = wires_in_a_row(alloc, 20_000)?;
-    let mut parts = Vec::new(alloc);
-    for _ in 0..20_000 {
-        parts.push(Some(wires_in_a_row(alloc, 3)?))?;
-    }
+    let parts = chains(alloc, 20_000)?;
     let whole = with_parts(&rt, alloc, &net, &parts)?;
     assert_eq!(rt; whole.wires, 60_001);
     assert_eq!(rt; whole.nodes.len(), 60_001);
-    assert!(rt; closed(&whole).is_none());
-    assert_eq!(rt; whole.nodes[1].wires.as_slice(), [0, 20_001].as_slice());
-    assert_eq!(rt;
-        whole.nodes[2].wires.as_slice(),
-        [20_001, 20_002].as_slice()
-    );
-    assert_eq!(rt; whole.nodes[3].wires.as_slice(), [20_002, 1].as_slice());
-    assert_eq!(rt; whole.nodes[4].wires.as_slice(), [1, 20_003].as_slice());
-    assert_eq!(rt;
-        whole.nodes[60_000].wires.as_slice(),
-        [60_000, 20_000].as_slice()
-    );
+    has_ends(&rt, &whole, 1, [0, 20_001]);
+    has_ends(&rt, &whole, 2, [20_001, 20_002]);
+    has_ends(&rt, &whole, 3, [20_002, 1]);
+    has_ends(&rt, &whole, 4, [1, 20_003]);
+    has_ends(&rt, &whole, 60_000, [60_000, 20_000]);
     Ok(())
 }
