@@ -9,4 +9,3 @@ pub mod RoundsTraces
 pub mod RoundsPorts
 pub mod Depths
 pub mod EqualTrees
-pub mod Walking

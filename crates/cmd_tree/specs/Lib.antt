@@ -4,8 +4,6 @@ pub mod Marks
 pub mod Lists
 pub mod Join
 pub mod Limits
-pub mod Bursts
-pub mod Walks
 pub mod Meaning
 pub mod Residual
 pub mod Rounds

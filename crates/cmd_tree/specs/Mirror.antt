@@ -2,4 +2,3 @@
 pub mod Stored
 pub mod Size
 pub mod Falls
-pub mod Walked

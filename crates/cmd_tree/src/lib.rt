@@ -6,7 +6,6 @@
 
 mod command;
 mod copy;
-mod firsts;
 mod laws;
 mod limits;
 mod marks;
@@ -14,11 +13,9 @@ mod measure;
 mod name;
 mod same;
 mod tree;
-mod visit;
 
 pub use command::Command;
 pub use copy::copy_command;
-pub use firsts::{VisitFirsts, walk_firsts};
 pub use laws::{rounds_by_counts, traces_are_closed, traces_are_steps};
 pub use limits::{
     MAX_BIG, MAX_COMPONENTS, MAX_DRIVEN_STEPS, MAX_FILE_BYTES, MAX_NAME_BYTES, MAX_NETLIST_BYTES,
@@ -29,4 +26,3 @@ pub use measure::{depth, item_places, places, places_in_all, seq_places};
 pub use name::{Name, NameSet};
 pub use same::same_command;
 pub use tree::{Dir, Item, Mark, Proc, Seq, Sym};
-pub use visit::{Ends, Meeting, Visit, dir_of, walk};

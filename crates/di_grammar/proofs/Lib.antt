@@ -1,11 +1,11 @@
-mod Searching
-mod Members
-mod Rising
-mod Clashing
-mod GrantSteps
-mod ChoiceSteps
-mod TableSteps
-mod EvenSteps
-mod RegrantSteps
-mod TurnSteps
-mod OverlapSteps
+pub mod Lesser
+pub mod Steps
+pub mod Sides
+pub mod GrantSteps
+pub mod SpotSteps
+pub mod TurnedSteps
+pub mod GrantingSteps
+pub mod SearchSteps
+pub mod OverlapSteps
+pub mod TwinSteps
+pub mod Answering

@@ -1,22 +1,20 @@
-//! Grants, known by their shape: `pref*[n?;(p!|q!|..)]` and `pref*[p!;d?|q!;e?|..]`.
-ghost use Rattle.std.specs.Prelude.{◌≡◌, ◌+◌, ◌*◌, ◌≤◌, ◌<◌, ◌^◌, ℕ, List, Some, length, is_some, slice_get};
+ghost use Rattle.std.specs.Prelude.{◌≡◌, ◌≤◌, ◌+◌, ◌++◌, [], length, is_some, not};
 ghost use Rattle.cmd_tree.specs.Tree.{places_of, places_among};
 ghost use Rattle.cmd_tree.specs.Limits.{places_of_proc};
-ghost use Rattle.cmd_tree.specs.View.{item_of, seqs_of};
-ghost use Rattle.di_grammar.specs.GrantForms.{Grantee};
-ghost use Rattle.di_grammar.specs.Mirror.Granting.{symbol_if, single, with_second, plain_symbol, release_symbol, symbols_by, choice_of, placed, granted_body, granted, DecidesGrant};
-ghost use Rattle.di_grammar.specs.Mirror.GrantParts.{symbol_by, first_place, step_of, GivesAll, GivenBy, IsWithin};
+ghost use Rattle.cmd_tree.specs.View.{item_of, seqs_of, seq_of};
+ghost use Rattle.di_grammar.specs.Rules.{single, single_mark, lone_item, mark_of_lone, output_mark, input_mark, with_second, plain_mark, release_mark, marks_by, placed_if, choice_of_lone, plain_granted, release_granted, granted, is_empty, is_grant};
+ghost use Rattle.di_grammar.specs.Grants.{mark_by, first_place, step_of, given_by, place_after};
 
 use cmd_tree::{Dir, Item, Mark, Proc, Seq};
 
-/// The two forms of a grant.
+/// The two forms of a grant: `pref*[n?;(p1!|..|pk!)]`, and `pref*[p1!;d1?|..|pk!;dk?]`.
 #[derive(Clone, Copy)]
 pub enum Form {
     Plain,
     Release,
 }
 
-/// A grant: its form and its alternatives, each of which gives a symbol.
+/// A grant: its form and its alternatives, each of which gives one mark.
 #[derive(Clone, Copy)]
 pub struct Grant<'a> {
     pub form: Form,
@@ -25,7 +23,7 @@ pub struct Grant<'a> {
 
 /// Whether a process is a grant.
 pub fn is_grant(process: &Proc) -> bool
-    ensures { DecidesGrant process.now result }
+    ensures { result ≡ is_grant process.now }
 {
     match grant_of(process) {
         None => false,
@@ -35,8 +33,9 @@ pub fn is_grant(process: &Proc) -> bool
 
 /// A process as a grant, where it is one.
 pub fn grant_of(process: &Proc) -> Option<Grant<'_>>
-    ensures given { GivenBy result (granted process.now) }
-    ensures within { IsWithin result (1 + places_of_proc process.now) }
+    ensures given { given_by result ≡ granted process.now }
+    ensures within { place_after result ≤ 1 + places_of_proc process.now }
+    ensures full { is_some result ≡ not (is_empty (given_by result)) }
 {
     match &process.lead {
         Some(_) => None,
@@ -47,37 +46,62 @@ pub fn grant_of(process: &Proc) -> Option<Grant<'_>>
     }
 }
 
-fn body_grant(body: &Seq) -> Option<Grant<'_>>
-    ensures given { GivenBy result (granted_body body.now) }
-    ensures within { IsWithin result (1 + places_of body.now) }
+fn body_grant(seq: &Seq) -> Option<Grant<'_>>
+    ensures given { given_by result ≡ plain_granted seq.now ++ release_granted seq.now }
+    ensures within { place_after result ≤ 1 + places_of seq.now }
+    ensures full { is_some result ≡ not (is_empty (given_by result)) }
 {
-    match body.items.as_slice() {
+    match plain_grant(seq) {
+        None => release_grant(seq),
+        Some(grant) => Some(grant),
+    }
+}
+
+fn plain_grant(seq: &Seq) -> Option<Grant<'_>>
+    ensures given { given_by result ≡ plain_granted seq.now }
+    ensures within { place_after result ≤ 1 + places_of seq.now }
+    ensures full { is_some result ≡ not (is_empty (given_by result)) }
+{
+    match seq.items.as_slice() {
         [] => None,
-        [choice] => grant_in(Form::Release, alternatives(choice)),
-        [take, choice] => match single(take, Dir::Input) {
+        [take, rest @ ..] => match input_mark(single_mark(take)) {
             None => None,
-            Some(_) => grant_in(Form::Plain, alternatives(choice)),
+            Some(_) => grant_in(Form::Plain, lone_choice(rest)),
         },
-        _ => None,
     }
 }
 
-/// The alternatives of a choice; a burst has none.
-fn alternatives(item: &Item) -> &[Seq]
-    ensures { seqs_of result.now ≡ choice_of (item_of item.now) }
+fn release_grant(seq: &Seq) -> Option<Grant<'_>>
+    ensures given { given_by result ≡ release_granted seq.now }
+    ensures within { place_after result ≤ 1 + places_of seq.now }
+    ensures full { is_some result ≡ not (is_empty (given_by result)) }
 {
-    match item {
-        Item::Burst(_) => &[],
-        Item::Alt(seqs) => seqs.as_slice(),
+    grant_in(Form::Release, lone_choice(seq.items.as_slice()))
+}
+
+// The alternatives of a choice that stands alone, else none.
+fn lone_choice(items: &[Item]) -> &[Seq]
+    ensures { seqs_of result.now ≡ choice_of_lone (lone_item (seq_of items.now)) }
+{
+    match items {
+        [] => &[],
+        [item] => match item {
+            Item::Burst(_) => &[],
+            Item::Alt(seqs) => seqs.as_slice(),
+        },
+        _ => &[],
     }
 }
 
-/// The grant with these alternatives, where there are two or more and each gives a symbol.
 fn grant_in(form: Form, choice: &[Seq]) -> Option<Grant<'_>>
-    ensures given { GivenBy result (placed (first_place form) (step_of form) (symbols_by (symbol_by form) (seqs_of choice.now))) }
-    ensures within { IsWithin result (first_place form + places_among (seqs_of choice.now)) }
+    ensures given { given_by result ≡ placed_if (step_of form) (first_place form) (marks_by (mark_by form) (seqs_of choice.now)) }
+    ensures within { place_after result ≤ first_place form + places_among (seqs_of choice.now) }
+    ensures full { is_some result ≡ not (is_empty (given_by result)) }
 {
-    if choice.len() >= 2 && form.gives_each(choice) {
+    if choice.is_empty() {
+        return None;
+    }
+    if form.marks_each(choice) {
         Some(Grant { form, choice })
     } else {
         None
@@ -85,87 +109,114 @@ fn grant_in(form: Form, choice: &[Seq]) -> Option<Grant<'_>>
 }
 
 impl Form {
-    /// The symbol that an alternative gives, where it has the form of one.
-    pub fn symbol(self, seq: &Seq) -> Option<u32>
-        ensures { result ≡ symbol_by self seq.now }
+    // The mark that an alternative gives, where it has the form of one.
+    pub fn mark(self, seq: &Seq) -> Option<Mark>
+        ensures { result ≡ mark_by self seq.now }
     {
         match self {
-            Form::Plain => plain_symbol(seq),
-            Form::Release => release_symbol(seq),
+            Form::Plain => plain_mark(seq),
+            Form::Release => release_mark(seq),
         }
     }
 
-    /// The place of the symbol that an alternative gives.
-    pub fn place(self, index: u32) -> u32
-        requires { first_place self + step_of self * index < 2 ^ 32 }
-        ensures { result ≡ first_place self + step_of self * index }
+    // The place of the first mark that a grant gives.
+    pub fn first_place(self) -> u32
+        ensures { result ≡ first_place self }
     {
         match self {
-            Form::Plain => 2 + index,
-            Form::Release => 1 + 2 * index,
+            Form::Plain => 2,
+            Form::Release => 1,
         }
     }
 
-    fn gives_each(self, choice: &[Seq]) -> bool
-        ensures { result ≡ is_some (symbols_by (symbol_by self) (seqs_of choice.now)) }
+    fn marks_each(self, choice: &[Seq]) -> bool
+        ensures { result ≡ is_some (marks_by (mark_by self) (seqs_of choice.now)) }
     {
         for seq in choice {
-            if self.symbol(seq).is_none() {
-                return false;
+            match self.mark(seq) {
+                None => return false,
+                Some(_) => {}
             }
         }
         true
     }
 }
 
-/// The symbol of an item of one mark alone, of this direction.
-fn single(item: &Item, dir: Dir) -> Option<u32>
-    ensures { result ≡ single (item_of item.now) dir }
+fn single_mark(item: &Item) -> Option<Mark>
+    ensures { result ≡ single_mark (item_of item.now) }
 {
     match item {
-        Item::Burst(marks) => match marks.as_slice() {
-            [mark] => symbol_if(*mark, dir),
-            _ => None,
-        },
+        Item::Burst(marks) => single(marks.as_slice()),
         Item::Alt(_) => None,
     }
 }
 
-/// The symbol of a mark of this direction.
-fn symbol_if(mark: Mark, dir: Dir) -> Option<u32>
-    ensures { result ≡ symbol_if mark dir }
+fn single(marks: &[Mark]) -> Option<Mark>
+    ensures { result ≡ single marks.now }
 {
-    match (mark.dir, dir) {
-        (Dir::Input, Dir::Input) | (Dir::Output, Dir::Output) => Some(mark.sym.0),
+    match marks {
+        [mark] => Some(*mark),
         _ => None,
     }
 }
 
-/// The symbol of an alternative `p!`.
-fn plain_symbol(seq: &Seq) -> Option<u32>
-    ensures { result ≡ plain_symbol seq.now }
+fn lone_mark(items: &[Item]) -> Option<Mark>
+    ensures { result ≡ mark_of_lone (lone_item (seq_of items.now)) }
 {
-    match seq.items.as_slice() {
-        [give] => single(give, Dir::Output),
+    match items {
+        [] => None,
+        [item] => single_mark(item),
         _ => None,
     }
 }
 
-/// The symbol `p` of an alternative `p!;d?`.
-fn release_symbol(seq: &Seq) -> Option<u32>
-    ensures { result ≡ release_symbol seq.now }
+fn output_mark(mark: Option<Mark>) -> Option<Mark>
+    ensures { result ≡ output_mark mark }
 {
-    match seq.items.as_slice() {
-        [give, back] => with_second(single(give, Dir::Output), single(back, Dir::Input)),
-        _ => None,
+    match mark {
+        Some(mark) => match mark.dir {
+            Dir::Input => None,
+            Dir::Output => Some(mark),
+        },
+        None => None,
     }
 }
 
-fn with_second(first: Option<u32>, second: Option<u32>) -> Option<u32>
+fn input_mark(mark: Option<Mark>) -> Option<Mark>
+    ensures { result ≡ input_mark mark }
+{
+    match mark {
+        Some(mark) => match mark.dir {
+            Dir::Input => Some(mark),
+            Dir::Output => None,
+        },
+        None => None,
+    }
+}
+
+fn with_second(first: Option<Mark>, second: Option<Mark>) -> Option<Mark>
     ensures { result ≡ with_second first second }
 {
     match second {
         None => None,
         Some(_) => first,
+    }
+}
+
+fn plain_mark(seq: &Seq) -> Option<Mark>
+    ensures { result ≡ plain_mark seq.now }
+{
+    output_mark(lone_mark(seq.items.as_slice()))
+}
+
+fn release_mark(seq: &Seq) -> Option<Mark>
+    ensures { result ≡ release_mark seq.now }
+{
+    match seq.items.as_slice() {
+        [] => None,
+        [give, rest @ ..] => with_second(
+            output_mark(single_mark(give)),
+            input_mark(lone_mark(rest)),
+        ),
     }
 }

@@ -1,17 +1,24 @@
-//! Which commands are admitted: nine rules on the text of a command, decided without its traces.
+//! The grammar of delay-insensitive commands: which commands are admitted, and where a command
+//! breaks a rule. `specs/Rules.antt` has the rules.
 #![tactic(auto)]
 
-mod broken;
-mod firsts;
-mod g1_bursts;
-mod g2_neighbours;
-mod g3_rounds;
-mod g4_choices;
-mod g6_overlaps;
-mod g7_directions;
-mod g8_granted;
+mod alternate;
+mod answer;
+mod choices;
+mod ends;
+mod fault;
 mod grant;
+mod granting;
+mod overlaps;
+mod places;
 mod search;
-mod table;
+mod sets;
+mod spots;
+mod turned;
+mod twins;
+mod uneven;
 
-pub use broken::Broken;
+pub use answer::{Broken, check};
+
+#[cfg(test)]
+mod tests;

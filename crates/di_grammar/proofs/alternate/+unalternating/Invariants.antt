@@ -1,0 +1,18 @@
+use Rattle.std.proofs.Common.{◌≡◌, ◌+◌, drop}
+use Rattle.cmd_tree.specs.Tree.{places_of, places_among}
+use Rattle.cmd_tree.specs.View.{seq_of, seqs_of}
+use Rattle.di_grammar.specs.Least.{lesser, least}
+use Rattle.di_grammar.specs.Rules.{unalternating, unalternating_among}
+use Rattle.di_grammar.proofs.alternate.+unalternating.Given as goal
+
+abbrev pub invariant-unalternating_seq-loop-item : goal.invariant-unalternating_seq-loop-item
+invariant-unalternating_seq-loop-item l = record {
+  fits : l.place + places_of (seq_of (drop l.item-index l.item-items)) ≡ l.first + places_of (seq_of l.item-items);
+  found : lesser l.found (least (unalternating l.last l.place (seq_of (drop l.item-index l.item-items)))) ≡ least (unalternating l.fn.before l.first (seq_of l.item-items));
+}
+
+abbrev pub invariant-unalternating_item-loop-seq : goal.invariant-unalternating_item-loop-seq
+invariant-unalternating_item-loop-seq l = record {
+  fits : l.place + places_among (seqs_of (drop l.seq-index l.seq-items)) ≡ l.first + places_among (seqs_of l.seq-items);
+  found : lesser l.found (least (unalternating_among l.place (seqs_of (drop l.seq-index l.seq-items)))) ≡ least (unalternating_among l.first (seqs_of l.seq-items));
+}

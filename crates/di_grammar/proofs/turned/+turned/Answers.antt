@@ -1,0 +1,20 @@
+use Rattle.std.proofs.Common.{arith}
+use Rattle.di_grammar.specs.Rules.{spots_of}
+use Rattle.di_grammar.proofs.Lesser.{found_step}
+use Rattle.di_grammar.proofs.Steps.{places_items, places_seqs}
+use Rattle.di_grammar.proofs.TurnedSteps.{turned_items, turned_seqs}
+use Rattle.di_grammar.proofs.turned.+turned.Goals as goal
+
+pub turned_seq-loop-item-preserved : goal.turned_seq-loop-item-preserved
+turned_seq-loop-item-preserved n c = rw c.item_places-place.ensures (record {
+  fits = omega (arith, c.loop-item.invariant.fits, places_items c.as_slice-item-items.result.now c.loop-item.item-index c.item-item.result c.loop-item-test.true c.item-item.is);
+  found = found_step _ _ _ _ _ _ _ (turned_items (spots_of c.args.procs.now) _ c.as_slice-item-items.result.now c.loop-item.item-index c.item-item.result c.loop-item-test.true c.item-item.is)
+      c.lesser-found.ensures c.turned_item.ensures c.loop-item.invariant.found;
+})
+
+pub turned_item-loop-seq-preserved : goal.turned_item-loop-seq-preserved
+turned_item-loop-seq-preserved n c = rw c.seq_places-place.ensures (record {
+  fits = omega (arith, c.loop-seq.invariant.fits, places_seqs c.as_slice-seq-items.result.now c.loop-seq.seq-index c.seq-item.result c.loop-seq-test.true c.seq-item.is);
+  found = found_step _ _ _ _ _ _ _ (turned_seqs (spots_of c.args.procs.now) _ c.as_slice-seq-items.result.now c.loop-seq.seq-index c.seq-item.result c.loop-seq-test.true c.seq-item.is)
+      c.lesser-found.ensures c.turned_seq.ensures c.loop-seq.invariant.found;
+})
