@@ -19,18 +19,11 @@ use Rattle.cmd_text.specs.Source.{fault_of}
 use Rattle.cmd_text.specs.contracts.token.Token.{the_type}
 use denote.Enum.Bare.{sameb}
 use Rattle.cmd_text.specs.declared.file.Sentence.{Sentence}
-use Rattle.cmd_text.specs.declared.file.Factor.TheVariants.{Own}
-use Rattle.cmd_text.specs.declared.draft.Draft.{Draft}
-use Rattle.cmd_text.specs.declared.draft.Mode as mode_type
-use Rattle.cmd_text.specs.declared.draft.Mode.TheVariants as mode
-use Rattle.cmd_text.specs.declared.spot.Partly as code_partly
 use Rattle.cmd_text.specs.declared.spot.Spot as spot_type
 use Rattle.cmd_text.specs.declared.spot.Spot.TheVariants as spot
-use Rattle.cmd_text.specs.Process.{proc_of}
 use Rattle.cmd_text.specs.Mirror.Machine.{State, heard}
 use Rattle.cmd_text.specs.Mirror.Machine as machine
-use Rattle.cmd_text.specs.Mirror.Drafts.{state_of, state_at, lead_of, alts_of}
-use Rattle.cmd_text.specs.Mirror.Reader.{Partly, Spot, InProcess, AfterFactor, IsWithin, put, with_factor, step, open_brackets_at}
+use Rattle.cmd_text.specs.Mirror.Reader.{Partly, Spot, InProcess, IsWithin, put, step, open_brackets_at}
 use Rattle.cmd_text.specs.Mirror.Reading.{Standing, with_heard, hear, go, judge, verdict}
 use Rattle.cmd_text.specs.Mirror.ReaderView.{spot_of, answer_from, answer_behind}
 

@@ -5,11 +5,10 @@ use Rattle.std.specs.Prelude.{codes}
 use Rattle.cmd_tree.specs.declared.tree.Item.{Item}
 use Rattle.cmd_tree.specs.declared.tree.Mark.{Mark}
 use Rattle.cmd_tree.specs.declared.tree.Proc.{Proc}
-use Rattle.cmd_tree.specs.declared.tree.Item.TheVariants.{Alt}
 use Rattle.cmd_tree.specs.Tree.{TSeq}
 use Rattle.std.proofs.lemmas.Option.{unwrap_or-slice_get}
 use Rattle.cmd_tree.specs.View.{item_of, seq_of, seqs_of}
-use Rattle.cmd_text.specs.Canonical.{mark_text, marks_led, burst_text, items_led, item_text, seqs_led, seq_text, bare_text, body_text, proc_text, procs_led}
+use Rattle.cmd_text.specs.Canonical.{mark_text, marks_led, items_led, item_text, seqs_led, seq_text, bare_text, body_text, proc_text, procs_led}
 
 drop_next : {A : Type 0} (xs : List A) (i : ℕ) (x : A) → i < length xs → x ≡ get_or xs i x → drop i xs ≡ x ∷ drop (i + 1) xs
 drop_next {A} xs i x h is = rw add-one (drop-cons xs i x h ∙ ap (λ (y : A). y ∷ drop (suc i) xs) (sym is))

@@ -11,8 +11,6 @@ use Rattle.cmd_text.specs.Fault.{Fault}
 use Rattle.cmd_text.specs.Names.{number_in}
 use Rattle.cmd_text.specs.Scan.{Between, scan}
 use Rattle.cmd_text.specs.Source.{IsTextOfBytes, IsShallowText, IsFaultOfBytes}
-use Rattle.cmd_text.specs.Mirror.Machine.{State, AtForm, AtBody, AtItem, AtMark, AfterItem, AtBurst, AtBurstMark, AfterBurst, AtSecond, Closed, next_choice, close_round, close_square, widen, end_lead}
-use Rattle.cmd_text.specs.Mirror.Machine as machine
 use Rattle.cmd_text.specs.Mirror.Reader.{Spot, AtSentence, AtName, AtDefine, AtFactor, InProcess, AfterName, AtFresh, AtSlash, AtWas, AfterPair, AfterFactor, AtEnd, Finished, put, step}
 use Rattle.cmd_text.specs.Mirror.Reading.{Standing, go, reads, begin, answer}
 use Rattle.cmd_text.proofs.FileTaken.{nothing, same_some}

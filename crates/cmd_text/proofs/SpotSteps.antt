@@ -6,7 +6,7 @@ use Rattle.cmd_text.specs.declared.token.Token as kind
 use Rattle.cmd_text.specs.declared.spot.Spot as code
 use Rattle.cmd_text.specs.Token.{Token}
 use Rattle.cmd_text.specs.Mirror.ScanView.{token_of}
-use Rattle.cmd_text.specs.Mirror.Reader.{Spot, step}
+use Rattle.cmd_text.specs.Mirror.Reader.{step}
 use Rattle.cmd_text.specs.Mirror.ReaderView.{spot_of, Leads, LeadsBehind}
 
 module _ (ss : List Sentence) (s u : code.Spot) (same : s ≡ u) where

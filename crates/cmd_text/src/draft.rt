@@ -3,8 +3,11 @@ ghost use Rattle.std.specs.Prelude.{◌≡◌, ◌↔◌, ◌∷◌, ◌++◌, I
 ghost use Rattle.cmd_tree.specs.Tree.{Done, Stop};
 ghost use Rattle.cmd_tree.specs.View.{item_of, seqs_of};
 ghost use Rattle.cmd_text.specs.Process.{body_of, proc_of};
-ghost use Rattle.cmd_text.specs.Mirror.Machine.{InLead, Inside, AtForm, AtItem, AfterItem, add, close_square, next_choice, close_round, widen, lone, end_lead};
-ghost use Rattle.cmd_text.specs.Mirror.Drafts.{base_of, lead_of, ctx_of, alts_of, items_of, state_of, only_if};
+ghost use Rattle.cmd_text.specs.Mirror.Machine.{InLead, Inside, AtForm, AtItem, AfterItem, add};
+ghost use Rattle.cmd_text.specs.Mirror.Machine.{close_square, next_choice, close_round, widen, lone};
+ghost use Rattle.cmd_text.specs.Mirror.Machine.{end_lead};
+ghost use Rattle.cmd_text.specs.Mirror.Drafts.{base_of, lead_of, ctx_of, alts_of, items_of, state_of};
+ghost use Rattle.cmd_text.specs.Mirror.Drafts.{only_if};
 
 use cmd_tree::{Item, Mark, Proc, Seq};
 use sqlite_items::Items;
@@ -83,7 +86,8 @@ pub(crate) fn begin(alloc: Global, draft: &mut Draft, in_lead: bool)
 /// Behind `(`.
 #[tactic(auto, using(std::proofs::lemmas::Grind::common_steps, crate::proofs::Places::places))]
 pub(crate) fn open_round(alloc: Global, draft: &mut Draft) -> Result<(), AllocError>
-    ensures { IfOk result (λ _. state_of draft.new ≡ AtItem (Inside (ctx_of draft.old) (alts_of draft.old) (items_of draft.old)) Stop Done) }
+    ensures { IfOk result (λ _. state_of draft.new
+        ≡ AtItem (Inside (ctx_of draft.old) (alts_of draft.old) (items_of draft.old)) Stop Done) }
 {
     let row = Items::from_vec(Vec::with_capacity(alloc, 1)?);
     let items = mem::replace(&mut draft.items, row);
@@ -96,7 +100,8 @@ pub(crate) fn open_round(alloc: Global, draft: &mut Draft) -> Result<(), AllocEr
 /// Behind one item more.
 #[tactic(auto, using(std::proofs::lemmas::Grind::common_steps, crate::proofs::Places::places))]
 pub(crate) fn push_item(draft: &mut Draft, item: Item) -> Result<(), AllocError>
-    ensures { IfOk result (λ _. state_of draft.new ≡ AfterItem (ctx_of draft.old) (alts_of draft.old) (add (items_of draft.old) (item_of item))) }
+    ensures { IfOk result (λ _. state_of draft.new ≡ AfterItem (ctx_of draft.old) (alts_of draft.old)
+        (add (items_of draft.old) (item_of item))) }
 {
     draft.items.push(item)?;
     draft.mode = Mode::After;
@@ -134,7 +139,8 @@ pub(crate) fn close_lead(alloc: Global, draft: &mut Draft) -> bool
 /// Behind `|`; nothing in a lead, which has no alternatives.
 #[tactic(auto, using(std::proofs::lemmas::Grind::common_steps, crate::proofs::Places::choices))]
 pub(crate) fn next_alternative(alloc: Global, draft: &mut Draft) -> Result<bool, AllocError>
-    ensures { IfOk result (λ b. next_choice (ctx_of draft.old) (alts_of draft.old) (items_of draft.old) ≡ only_if b (state_of draft.new)) }
+    ensures { IfOk result (λ b. next_choice (ctx_of draft.old) (alts_of draft.old) (items_of draft.old)
+        ≡ only_if b (state_of draft.new)) }
 {
     if is_in_lead(draft) {
         return Ok(false);
@@ -149,7 +155,8 @@ pub(crate) fn next_alternative(alloc: Global, draft: &mut Draft) -> Result<bool,
 /// Behind `)`; nothing where no bracket is open, or it has one alternative.
 #[tactic(auto, using(std::proofs::lemmas::Grind::common_steps, crate::proofs::Places::closes))]
 pub(crate) fn close_choice(draft: &mut Draft) -> Result<bool, AllocError>
-    ensures { IfOk result (λ b. close_round (ctx_of draft.old) (alts_of draft.old) (items_of draft.old) ≡ only_if b (state_of draft.new)) }
+    ensures { IfOk result (λ b. close_round (ctx_of draft.old) (alts_of draft.old) (items_of draft.old)
+        ≡ only_if b (state_of draft.new)) }
 {
     let Some(level) = draft.outer.pop() else {
         return Ok(false);
@@ -169,7 +176,8 @@ pub(crate) fn close_choice(draft: &mut Draft) -> Result<bool, AllocError>
 /// Behind `]`; nothing in a round bracket or a lead.
 #[tactic(auto, using(std::proofs::lemmas::Grind::common_steps, crate::proofs::Places::squares))]
 pub(crate) fn close_body(alloc: Global, draft: &mut Draft) -> Result<bool, AllocError>
-    ensures { IfOk result (λ b. close_square (ctx_of draft.old) (alts_of draft.old) (items_of draft.old) ≡ only_if b (state_of draft.new)) }
+    ensures { IfOk result (λ b. close_square (ctx_of draft.old) (alts_of draft.old) (items_of draft.old)
+        ≡ only_if b (state_of draft.new)) }
 {
     if !draft.outer.is_empty() {
         return Ok(false);
@@ -190,7 +198,8 @@ pub(crate) fn close_body(alloc: Global, draft: &mut Draft) -> Result<bool, Alloc
 /// Behind `||`, where a bracket holds one symbol so far; nothing elsewhere.
 #[tactic(auto, using(std::proofs::lemmas::Grind::common_steps, crate::proofs::Places::widens))]
 pub(crate) fn begin_burst(draft: &mut Draft) -> bool
-    ensures { widen (ctx_of draft.old) (alts_of draft.old) (lone (items_of draft.old)) ≡ only_if result (state_of draft.new) }
+    ensures { widen (ctx_of draft.old) (alts_of draft.old) (lone (items_of draft.old))
+        ≡ only_if result (state_of draft.new) }
 {
     let Some(level) = draft.outer.pop() else {
         return false;

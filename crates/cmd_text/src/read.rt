@@ -1,5 +1,6 @@
 //! The reader of a file.
-ghost use Rattle.std.specs.Prelude.{◌≡◌, ℕ, ◌<◌, ◌≤◌, List, [], length, IfOk, IfErr, IsOk, Ok, Err, true, false};
+ghost use Rattle.std.specs.Prelude.{◌≡◌, ℕ, ◌<◌, ◌≤◌, List, [], length, IfOk, IfErr, IsOk, Ok, Err, true};
+ghost use Rattle.std.specs.Prelude.{false};
 ghost use Rattle.std.specs.Option.{IfSome};
 ghost use Rattle.cmd_tree.specs.declared.limits.TheConstants.{MAX_FILE_BYTES};
 ghost use Rattle.cmd_text.specs.Source.{fault_of, IsTextOfBytes, IsShallowText, IsFaultOfBytes};
@@ -45,7 +46,8 @@ fn pass_token(
         ≡ answer_behind a.ended ns (spot_of sentences.new a.spot) a.next bytes.now) }
     ensures range { IfOk result (λ a. a.next ≤ length bytes.now) }
     ensures past { IfOk result (λ a. a.ended ≡ false → from < a.next) }
-    ensures err { IfErr result (λ e. (ns : List (List ℕ)) → Refuses ns (spot_of sentences.old spot) from bytes.now e) }
+    ensures err { IfErr result (λ e. (ns : List (List ℕ)) →
+        Refuses ns (spot_of sentences.old spot) from bytes.now e) }
 {
     let found = match next_token(bytes, from) {
         Ok(found) => found,
@@ -134,7 +136,8 @@ fn read_tokens(
     requires few { length bytes.now ≤ MAX_FILE_BYTES }
     requires no_sentences { sentences.old ≡ [] }
     requires no_names { names.old ≡ [] }
-    ensures ok { IfOk result (λ _. answer bytes.now ≡ Ok (record { names = names.new; spot = Finished sentences.new })) }
+    ensures ok { IfOk result (λ _. answer bytes.now
+        ≡ Ok (record { names = names.new; spot = Finished sentences.new })) }
     ensures err { IfErr result (λ e. IfSome (fault_of e) (λ f. answer bytes.now ≡ Err f)) }
 {
     let mut spot = Spot::Sentence;
@@ -159,8 +162,10 @@ pub fn read_file(alloc: Global, bytes: &[u8]) -> Result<File, Refusal>
     requires { length bytes.now ≤ MAX_FILE_BYTES }
     ensures ok { IfOk result (λ f. IsTextOfBytes bytes.now f.names f.sentences × IsShallowText bytes.now) }
     ensures refused { IfErr result (λ e. IfSome (fault_of e) (λ f. IsFaultOfBytes bytes.now f)) }
-    ensures same_text { (names : List (List ℕ)) (ss : List Sentence) → IsTextOfBytes bytes.now names ss → IfOk result (λ f. (f.names ≡ names) × (f.sentences ≡ ss)) }
-    ensures text_read { (names : List (List ℕ)) (ss : List Sentence) → IsTextOfBytes bytes.now names ss → IsShallowText bytes.now → IfErr result (λ e. e ≡ told.NoMemory) }
+    ensures same_text { (names : List (List ℕ)) (ss : List Sentence) → IsTextOfBytes bytes.now names ss → IfOk result
+        (λ f. (f.names ≡ names) × (f.sentences ≡ ss)) }
+    ensures text_read { (names : List (List ℕ)) (ss : List Sentence) → IsTextOfBytes bytes.now names ss →
+        IsShallowText bytes.now → IfErr result (λ e. e ≡ told.NoMemory) }
     ensures fault_refused { (f : Fault) → IsFaultOfBytes bytes.now f → IsOk result → ⊥ }
     ensures same_fault { (f : Fault) → IsFaultOfBytes bytes.now f → IfErr result (λ e. IfSome (fault_of e) (λ g. g ≡ f)) }
 {

@@ -1,8 +1,10 @@
 //! The scanner: the next token of the bytes from a place on.
-ghost use Rattle.std.specs.Prelude.{◌≡◌, ℕ, ◌+◌, ◌<◌, ◌≤◌, length, drop, slice_range, slice_index, [], ◌∷◌, IfOk, IfErr, IsOk};
+ghost use Rattle.std.specs.Prelude.{◌≡◌, ℕ, ◌+◌, ◌<◌, ◌≤◌, length, drop, slice_range, slice_index, []};
+ghost use Rattle.std.specs.Prelude.{◌∷◌, IfOk, IfErr, IsOk};
 ghost use Rattle.cmd_tree.specs.declared.limits.TheConstants.{MAX_FILE_BYTES};
 ghost use Rattle.cmd_text.specs.Scan.{scan, Between, InComment, InWord, AfterColon, AfterBar, then_word};
-ghost use Rattle.cmd_text.specs.Mirror.ScanView.{begun, with_found, with_refusal, token_of, lexeme_token, IsPlainFirst, IsPast};
+ghost use Rattle.cmd_text.specs.Mirror.ScanView.{begun, with_found, with_refusal, token_of, lexeme_token};
+ghost use Rattle.cmd_text.specs.Mirror.ScanView.{IsPlainFirst, IsPast};
 
 use crate::file::Refusal;
 use crate::token::{First, Start, Token, comment, starts, tail, word_kind};
@@ -29,7 +31,8 @@ pub(crate) struct Lexeme<'a> {
 fn comment_end(bytes: &[u8], from: usize) -> Result<usize, Refusal>
     requires from_in { from ≤ length bytes.now }
     requires few { length bytes.now ≤ MAX_FILE_BYTES }
-    ensures ok { IfOk result (λ to. scan InComment from (drop from bytes.now) ≡ scan Between to (drop to bytes.now)) }
+    ensures ok { IfOk result (λ to. scan InComment from (drop from bytes.now)
+        ≡ scan Between to (drop to bytes.now)) }
     ensures range { IfOk result (λ to. (from ≤ to) × (to ≤ length bytes.now)) }
     ensures err { IfErr result (λ e. scan InComment from (drop from bytes.now) ≡ with_refusal e) }
 {
@@ -49,7 +52,8 @@ fn comment_end(bytes: &[u8], from: usize) -> Result<usize, Refusal>
 #[tactic(auto, using(std::proofs::lemmas::Grind::common_steps, crate::proofs::Cuts::cuts))]
 fn word_end(bytes: &[u8], at: usize) -> usize
     requires at_in { at < length bytes.now }
-    ensures scanned { scan (InWord at (slice_range bytes.now at (at + 1))) (at + 1) (drop (at + 1) bytes.now) ≡ then_word at (slice_range bytes.now at result) (scan Between result (drop result bytes.now)) }
+    ensures scanned { scan (InWord at (slice_range bytes.now at (at + 1))) (at + 1) (drop (at + 1) bytes.now)
+        ≡ then_word at (slice_range bytes.now at result) (scan Between result (drop result bytes.now)) }
     ensures range { (at < result) × (result ≤ length bytes.now) }
 {
     for i in at + 1..bytes.len() {
@@ -64,9 +68,11 @@ fn word_end(bytes: &[u8], at: usize) -> usize
 fn word_at(bytes: &[u8], at: usize) -> Result<Found, Refusal>
     requires at_in { at < length bytes.now }
     requires few { length bytes.now ≤ MAX_FILE_BYTES }
-    ensures ok { IfOk result (λ f. begun First.Letter at (slice_index bytes.now at) (λ m. scan m (at + 1) (drop (at + 1) bytes.now)) ≡ with_found f bytes.now) }
+    ensures ok { IfOk result (λ f. begun First.Letter at (slice_index bytes.now at)
+        (λ m. scan m (at + 1) (drop (at + 1) bytes.now)) ≡ with_found f bytes.now) }
     ensures range { IfOk result (λ f. (at < f.next) × (f.next ≤ length bytes.now) × (f.at ≡ at)) }
-    ensures err { IfErr result (λ e. begun First.Letter at (slice_index bytes.now at) (λ m. scan m (at + 1) (drop (at + 1) bytes.now)) ≡ with_refusal e) }
+    ensures err { IfErr result (λ e. begun First.Letter at (slice_index bytes.now at)
+        (λ m. scan m (at + 1) (drop (at + 1) bytes.now)) ≡ with_refusal e) }
 {
     let next = word_end(bytes, at);
     let token = word_kind(&bytes[at..next]);
@@ -82,9 +88,11 @@ fn token_at(bytes: &[u8], at: usize, first: First) -> Result<Found, Refusal>
     requires at_in { at < length bytes.now }
     requires few { length bytes.now ≤ MAX_FILE_BYTES }
     requires plain { IsPlainFirst first }
-    ensures ok { IfOk result (λ f. begun first at (slice_index bytes.now at) (λ m. scan m (at + 1) (drop (at + 1) bytes.now)) ≡ with_found f bytes.now) }
+    ensures ok { IfOk result (λ f. begun first at (slice_index bytes.now at)
+        (λ m. scan m (at + 1) (drop (at + 1) bytes.now)) ≡ with_found f bytes.now) }
     ensures range { IfOk result (λ f. (at < f.next) × (f.next ≤ length bytes.now) × (f.at ≡ at)) }
-    ensures err { IfErr result (λ e. begun first at (slice_index bytes.now at) (λ m. scan m (at + 1) (drop (at + 1) bytes.now)) ≡ with_refusal e) }
+    ensures err { IfErr result (λ e. begun first at (slice_index bytes.now at)
+        (λ m. scan m (at + 1) (drop (at + 1) bytes.now)) ≡ with_refusal e) }
 {
     match first {
         First::Letter => word_at(bytes, at),
@@ -104,7 +112,8 @@ fn token_at(bytes: &[u8], at: usize, first: First) -> Result<Found, Refusal>
 fn colon_at(bytes: &[u8], at: usize) -> Result<Found, Refusal>
     requires at_in { at < length bytes.now }
     requires few { length bytes.now ≤ MAX_FILE_BYTES }
-    ensures ok { IfOk result (λ f. scan (AfterColon at) (at + 1) (drop (at + 1) bytes.now) ≡ with_found f bytes.now) }
+    ensures ok { IfOk result (λ f. scan (AfterColon at) (at + 1) (drop (at + 1) bytes.now)
+        ≡ with_found f bytes.now) }
     ensures range { IfOk result (λ f. (at < f.next) × (f.next ≤ length bytes.now) × (f.at ≡ at)) }
     ensures err { IfErr result (λ e. scan (AfterColon at) (at + 1) (drop (at + 1) bytes.now) ≡ with_refusal e) }
 {
@@ -123,7 +132,8 @@ fn colon_at(bytes: &[u8], at: usize) -> Result<Found, Refusal>
 #[tactic(auto, using(std::proofs::lemmas::Grind::common_steps, crate::proofs::Cuts::cuts))]
 fn pipe_at(bytes: &[u8], at: usize) -> Result<Found, Refusal>
     requires at_in { at < length bytes.now }
-    ensures ok { IfOk result (λ f. scan (AfterBar at) (at + 1) (drop (at + 1) bytes.now) ≡ with_found f bytes.now) }
+    ensures ok { IfOk result (λ f. scan (AfterBar at) (at + 1) (drop (at + 1) bytes.now)
+        ≡ with_found f bytes.now) }
     ensures range { IfOk result (λ f. (at < f.next) × (f.next ≤ length bytes.now) × (f.at ≡ at)) }
     ensures never { IsOk result }
 {

@@ -2,7 +2,9 @@
 ghost use Rattle.std.specs.Prelude.{◌≡◌, ℕ, List, Option, Some, IfOk};
 ghost use Rattle.cmd_text.specs.declared.file.Sentence.{Sentence};
 ghost use Rattle.cmd_text.specs.Mirror.ScanView.{token_of, lexeme_token};
-ghost use Rattle.cmd_text.specs.Mirror.Reader.{AtSentence, AtName, AtDefine, AtFactor, AfterName, AtFresh, AtSlash, AtWas, AfterPair, AfterFactor, AtEnd, IsWithin, ended, with_factor};
+ghost use Rattle.cmd_text.specs.Mirror.Reader.{AtSentence, AtName, AtDefine, AtFactor, AfterName, AtFresh};
+ghost use Rattle.cmd_text.specs.Mirror.Reader.{AtSlash, AtWas, AfterPair, AfterFactor, AtEnd, IsWithin};
+ghost use Rattle.cmd_text.specs.Mirror.Reader.{ended, with_factor};
 ghost use Rattle.cmd_text.specs.Mirror.ReaderView.{head_of_code, partly_of, spot_of, Leads, LeadsBehind};
 
 use crate::file::{Factor, Named, Rename, Sentence};
@@ -46,7 +48,8 @@ pub(crate) enum Spot {
 }
 
 pub(crate) fn push_factor(partly: Partly, factor: Factor) -> Result<Partly, AllocError>
-    ensures { IfOk result (λ q. (ss : List Sentence) → partly_of ss q ≡ with_factor (partly_of ss partly) factor) }
+    ensures { IfOk result (λ q. (ss : List Sentence) → partly_of ss q
+        ≡ with_factor (partly_of ss partly) factor) }
 {
     let Partly { head, mut factors } = partly;
     factors.push(factor)?;
@@ -85,7 +88,8 @@ fn name_step(alloc: Global, lexeme: &Lexeme<'_>) -> Result<Option<Spot>, AllocEr
 
 #[tactic(auto, using(std::proofs::lemmas::Grind::common_steps, crate::proofs::RefusedSpots::refused_spots))]
 fn define_step(alloc: Global, head: Head, token: Token) -> Option<Spot>
-    ensures { (word : List ℕ) (p : Option ℕ) → Leads (λ ss. AtDefine ss (head_of_code head)) (token_of token word) p result }
+    ensures { (word : List ℕ) (p : Option ℕ) → Leads
+        (λ ss. AtDefine ss (head_of_code head)) (token_of token word) p result }
 {
     match token {
         Token::Define => Some(Spot::Factor(Partly {
@@ -102,7 +106,8 @@ fn factor_step(
     partly: Partly,
     lexeme: &Lexeme<'_>,
 ) -> Result<Option<Spot>, AllocError>
-    ensures { IfOk result (Leads (λ ss. AtFactor (partly_of ss partly)) (lexeme_token lexeme.now) (Some lexeme.now.at)) }
+    ensures { IfOk result (Leads (λ ss.
+        AtFactor (partly_of ss partly)) (lexeme_token lexeme.now) (Some lexeme.now.at)) }
 {
     match lexeme.token {
         Token::Pref => Ok(Some(Spot::Process(partly))),
@@ -125,7 +130,8 @@ fn fresh_step(
     named: Named,
     lexeme: &Lexeme<'_>,
 ) -> Result<Option<Spot>, AllocError>
-    ensures { IfOk result (Leads (λ ss. AtFresh (partly_of ss partly) named) (lexeme_token lexeme.now) (Some lexeme.now.at)) }
+    ensures { IfOk result (Leads (λ ss.
+        AtFresh (partly_of ss partly) named) (lexeme_token lexeme.now) (Some lexeme.now.at)) }
 {
     match lexeme.token {
         Token::Word => {
@@ -144,7 +150,8 @@ fn slash_step(
     fresh_at: u32,
     token: Token,
 ) -> Option<Spot>
-    ensures { (word : List ℕ) (p : Option ℕ) → Leads (λ ss. AtSlash (partly_of ss partly) named fresh fresh_at) (token_of token word) p result }
+    ensures { (word : List ℕ) (p : Option ℕ) → Leads
+        (λ ss. AtSlash (partly_of ss partly) named fresh fresh_at) (token_of token word) p result }
 {
     match token {
         Token::Slash => Some(Spot::Was(partly, named, fresh, fresh_at)),
@@ -161,7 +168,8 @@ fn was_step(
     fresh_at: u32,
     lexeme: &Lexeme<'_>,
 ) -> Result<Option<Spot>, AllocError>
-    ensures { IfOk result (Leads (λ ss. AtWas (partly_of ss partly) named fresh fresh_at) (lexeme_token lexeme.now) (Some lexeme.now.at)) }
+    ensures { IfOk result (Leads (λ ss.
+        AtWas (partly_of ss partly) named fresh fresh_at) (lexeme_token lexeme.now) (Some lexeme.now.at)) }
 {
     match lexeme.token {
         Token::Word => {
@@ -180,7 +188,8 @@ fn was_step(
 
 #[tactic(auto, using(std::proofs::lemmas::Grind::common_steps, crate::proofs::RefusedSpots::refused_spots))]
 fn after_pair_step(partly: Partly, named: Named, token: Token) -> Result<Option<Spot>, AllocError>
-    ensures { IfOk result (λ o. (word : List ℕ) (p : Option ℕ) → Leads (λ ss. AfterPair (partly_of ss partly) named) (token_of token word) p o) }
+    ensures { IfOk result (λ o. (word : List ℕ) (p : Option ℕ) → Leads
+        (λ ss. AfterPair (partly_of ss partly) named) (token_of token word) p o) }
 {
     match token {
         Token::Comma => Ok(Some(Spot::Fresh(partly, named))),
@@ -234,7 +243,8 @@ fn after_factor_step(
     partly: Partly,
     token: Token,
 ) -> Result<Option<Spot>, AllocError>
-    ensures { IfOk result (λ o. (word : List ℕ) (p : Option ℕ) → LeadsBehind (AfterFactor (partly_of sentences.old partly)) (token_of token word) p sentences.new o) }
+    ensures { IfOk result (λ o. (word : List ℕ) (p : Option ℕ) →
+        LeadsBehind (AfterFactor (partly_of sentences.old partly)) (token_of token word) p sentences.new o) }
 {
     match token {
         Token::Par => Ok(Some(Spot::Factor(partly))),
@@ -253,7 +263,8 @@ fn after_name_step(
     named: Named,
     token: Token,
 ) -> Result<Option<Spot>, AllocError>
-    ensures { IfOk result (λ o. (word : List ℕ) (p : Option ℕ) → LeadsBehind (AfterName (partly_of sentences.old partly) named) (token_of token word) p sentences.new o) }
+    ensures { IfOk result (λ o. (word : List ℕ) (p : Option ℕ) →
+        LeadsBehind (AfterName (partly_of sentences.old partly) named) (token_of token word) p sentences.new o) }
 {
     match token {
         Token::LeftSq => Ok(Some(Spot::Fresh(partly, named))),

@@ -6,9 +6,12 @@ ghost use Rattle.cmd_tree.specs.declared.limits.TheConstants.{MAX_FILE_BYTES};
 ghost use Rattle.cmd_tree.specs.Tree.{TBurst};
 ghost use Rattle.cmd_text.specs.Names.{number_in};
 ghost use Rattle.cmd_text.specs.Mirror.Reading.{with_heard};
-ghost use Rattle.cmd_text.specs.Mirror.Machine.{heard, open_brackets, AtForm, AtBody, AfterItem, AfterBurst, mark_of, step, add};
+ghost use Rattle.cmd_text.specs.Mirror.Machine.{heard, open_brackets, AtForm, AtBody, AfterItem};
+ghost use Rattle.cmd_text.specs.Mirror.Machine.{AfterBurst, mark_of, step, add};
 ghost use Rattle.cmd_text.specs.Mirror.ScanView.{token_of, lexeme_token};
-ghost use Rattle.cmd_text.specs.Mirror.Drafts.{ctx_of, alts_of, items_of, at_item, at_mark, after_item, at_burst, at_burst_mark, after_burst, at_second, lead_of, state_of, only_if, Takes};
+ghost use Rattle.cmd_text.specs.Mirror.Drafts.{ctx_of, alts_of, items_of, at_item, at_mark, after_item};
+ghost use Rattle.cmd_text.specs.Mirror.Drafts.{at_burst, at_burst_mark, after_burst, at_second, lead_of};
+ghost use Rattle.cmd_text.specs.Mirror.Drafts.{state_of, only_if, Takes};
 
 use crate::draft::{
     Draft, Mode, begin, begin_burst, close_body, close_choice, close_lead, next_alternative,
@@ -105,7 +108,8 @@ fn burst_step(draft: &mut Draft, lexeme: &Lexeme<'_>) -> Result<bool, AllocError
 
 #[tactic(auto, using(std::proofs::lemmas::Grind::common_steps, crate::proofs::Refusals::refusals))]
 fn after_step(alloc: Global, draft: &mut Draft, token: Token) -> Result<bool, AllocError>
-    ensures { IfOk result (λ b. (word : List ℕ) → Takes (after_item draft.old) (token_of token word) b draft.new) }
+    ensures { IfOk result (λ b. (word : List ℕ) →
+        Takes (after_item draft.old) (token_of token word) b draft.new) }
 {
     match token {
         Token::Semi => {
@@ -122,7 +126,8 @@ fn after_step(alloc: Global, draft: &mut Draft, token: Token) -> Result<bool, Al
 
 #[tactic(auto, using(std::proofs::lemmas::Grind::common_steps, crate::proofs::Refusals::refusals))]
 fn after_burst_step(alloc: Global, draft: &mut Draft, token: Token) -> Result<bool, AllocError>
-    ensures { IfOk result (λ b. (word : List ℕ) → Takes (after_burst draft.old) (token_of token word) b draft.new) }
+    ensures { IfOk result (λ b. (word : List ℕ) →
+        Takes (after_burst draft.old) (token_of token word) b draft.new) }
 {
     match token {
         Token::Par => {
@@ -159,7 +164,8 @@ fn push_mark(
     names: &mut NameTable,
 ) -> Result<(), AllocError>
     requires { length names.old ≤ MAX_FILE_BYTES }
-    ensures ok { IfOk result (λ _. state_of draft.new ≡ AfterItem (ctx_of draft.old) (alts_of draft.old) (add (items_of draft.old) (TBurst (mark_of (number_in names.new draft.old.name.items) dir ∷ [])))) }
+    ensures ok { IfOk result (λ _. state_of draft.new ≡ AfterItem (ctx_of draft.old) (alts_of draft.old)
+        (add (items_of draft.old) (TBurst (mark_of (number_in names.new draft.old.name.items) dir ∷ [])))) }
     ensures names { IfOk result (λ _. names.new ≡ insert_key bytes_eq names.old draft.old.name.items) }
 {
     let mark = mark(alloc, names, draft.name.as_slice(), dir)?;
@@ -174,7 +180,8 @@ fn push_burst_mark(
     names: &mut NameTable,
 ) -> Result<(), AllocError>
     requires { length names.old ≤ MAX_FILE_BYTES }
-    ensures ok { IfOk result (λ _. state_of draft.new ≡ AfterBurst (ctx_of draft.old) (alts_of draft.old) (items_of draft.old) (draft.old.marks ++ mark_of (number_in names.new draft.old.name.items) dir ∷ [])) }
+    ensures ok { IfOk result (λ _. state_of draft.new
+        ≡ AfterBurst (ctx_of draft.old) (alts_of draft.old) (items_of draft.old) (draft.old.marks ++ mark_of (number_in names.new draft.old.name.items) dir ∷ [])) }
     ensures names { IfOk result (λ _. names.new ≡ insert_key bytes_eq names.old draft.old.name.items) }
 {
     let mark = mark(alloc, names, draft.name.as_slice(), dir)?;
@@ -191,8 +198,11 @@ fn mark_step(
     names: &mut NameTable,
 ) -> Result<bool, AllocError>
     requires { length names.old ≤ MAX_FILE_BYTES }
-    ensures ok { IfOk result (λ b. (word : List ℕ) → step (number_in names.new) (at_mark draft.old) (token_of token word) ≡ only_if b (state_of draft.new)) }
-    ensures names { IfOk result (λ _. (word : List ℕ) → names.new ≡ with_heard names.old (heard (at_mark draft.old) (token_of token word))) }
+    ensures ok { IfOk result (λ b. (word : List ℕ) →
+        step (number_in names.new) (at_mark draft.old) (token_of token word)
+        ≡ only_if b (state_of draft.new)) }
+    ensures names { IfOk result (λ _. (word : List ℕ) → names.new
+        ≡ with_heard names.old (heard (at_mark draft.old) (token_of token word))) }
 {
     match token {
         Token::Ask => push_mark(alloc, draft, Dir::Input, names)?,
@@ -210,8 +220,11 @@ fn burst_mark_step(
     names: &mut NameTable,
 ) -> Result<bool, AllocError>
     requires { length names.old ≤ MAX_FILE_BYTES }
-    ensures ok { IfOk result (λ b. (word : List ℕ) → step (number_in names.new) (at_burst_mark draft.old) (token_of token word) ≡ only_if b (state_of draft.new)) }
-    ensures names { IfOk result (λ _. (word : List ℕ) → names.new ≡ with_heard names.old (heard (at_burst_mark draft.old) (token_of token word))) }
+    ensures ok { IfOk result (λ b. (word : List ℕ) →
+        step (number_in names.new) (at_burst_mark draft.old) (token_of token word)
+        ≡ only_if b (state_of draft.new)) }
+    ensures names { IfOk result (λ _. (word : List ℕ) → names.new
+        ≡ with_heard names.old (heard (at_burst_mark draft.old) (token_of token word))) }
 {
     match token {
         Token::Ask => push_burst_mark(alloc, draft, Dir::Input, names)?,
@@ -230,8 +243,10 @@ pub(crate) fn process_step(
     names: &mut NameTable,
 ) -> Result<bool, AllocError>
     requires { length names.old ≤ MAX_FILE_BYTES }
-    ensures ok { IfOk result (λ b. step (number_in names.new) (state_of draft.old) (lexeme_token lexeme.now) ≡ only_if b (state_of draft.new)) }
-    ensures names { IfOk result (λ _. names.new ≡ with_heard names.old (heard (state_of draft.old) (lexeme_token lexeme.now))) }
+    ensures ok { IfOk result (λ b. step (number_in names.new) (state_of draft.old) (lexeme_token lexeme.now)
+        ≡ only_if b (state_of draft.new)) }
+    ensures names { IfOk result (λ _. names.new
+        ≡ with_heard names.old (heard (state_of draft.old) (lexeme_token lexeme.now))) }
 {
     match draft.mode {
         Mode::Form => Ok(form_step(alloc, draft, lexeme.token)),

@@ -1,5 +1,5 @@
 -- Mirror of the scanner's values: the tokens and scans that they stand for.
-use Rattle.std.specs.Prelude.{ℕ, List, [], ◌∷◌, ⊤, ◌<◌, ◌≤◌, Option, Some, None, slice_range, drop}
+use Rattle.std.specs.Prelude.{ℕ, List, [], ◌∷◌, ⊤, ◌<◌, ◌≤◌, None, slice_range, drop}
 use Rattle.cmd_text.specs.declared.token.Token.{Token}
 use Rattle.cmd_text.specs.declared.token.Token.TheVariants as code
 use Rattle.cmd_text.specs.declared.token.Start.{Start}

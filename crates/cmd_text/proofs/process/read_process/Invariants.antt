@@ -1,6 +1,6 @@
 use Rattle.std.proofs.Common.{◌≡◌, ◌-◌, ◌≤◌, length}
 use Rattle.cmd_text.specs.Mirror.Machine.{AtForm}
-use Rattle.cmd_text.specs.Mirror.Reader.{Partly, InProcess, put}
+use Rattle.cmd_text.specs.Mirror.Reader.{Partly, InProcess}
 use Rattle.cmd_text.specs.Mirror.Drafts.{state_of}
 use Rattle.cmd_text.specs.Mirror.ReaderView.{answer_from}
 use Rattle.cmd_text.proofs.process.read_process.Given as goal

@@ -1,6 +1,6 @@
-use Rattle.std.proofs.Common.{◌≡◌, ◌<◌, ◌≤◌, ◌+◌, length, Some, sym, ◌∙◌, ap, subst, arith}
+use Rattle.std.proofs.Common.{◌<◌, ◌≤◌, ◌+◌, length, sym, ◌∙◌, ap, subst, arith}
 use Rattle.cmd_text.specs.Names.{number_in}
-use Rattle.cmd_text.specs.Mirror.Machine.{heard, step}
+use Rattle.cmd_text.specs.Mirror.Machine.{heard}
 use Rattle.cmd_text.specs.Mirror.Reader.{InProcess}
 use Rattle.cmd_text.specs.Mirror.ScanView.{lexeme_token}
 use Rattle.cmd_text.specs.Mirror.Drafts.{state_of, only_if}
