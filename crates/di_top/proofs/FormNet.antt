@@ -12,6 +12,7 @@ use Rattle.net_core.specs.Wiring.{IsWired}
 use Rattle.net_core.specs.Networks.{IsBasic, Correct}
 use Rattle.net_laws.specs.Implementing.{Implements}
 use Rattle.net_laws.proofs.JoinFork.{rounds_right}
+use Rattle.cmd_tree.specs.declared.limits.TheConstants.{MAX_SYMBOLS}
 use Rattle.di_top.specs.Forms.{TakesThenGives}
 use Rattle.di_top.specs.FormNets.{form_net}
 use Rattle.di_top.proofs.FormPorts.{names_are, form_outs}
@@ -22,7 +23,7 @@ command_traces c n m some_in some_out are t = subst (λ ps. Trace ps t ↔ Round
 
 -- a command of the form
 module _ (c : Command) (n m : ℕ) (form : TakesThenGives c.procs n m) where
-  pub few_symbols : n + m ≤ 1024
+  pub few_symbols : n + m ≤ MAX_SYMBOLS
   few_symbols = omega (arith, names_are c n m form, c.valid.few_symbols)
 
   pub form_net_right : Implements (form_net c n m) (Cmd c)

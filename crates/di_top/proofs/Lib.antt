@@ -6,4 +6,3 @@ pub mod Endings
 pub mod FormAnswers
 pub mod Sourcing
 pub mod Stops
-pub mod CommandPorts

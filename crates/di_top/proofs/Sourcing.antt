@@ -18,6 +18,7 @@ use Rattle.cmd_text.proofs.FileSound.{cat-assoc}
 use Rattle.cmd_text.proofs.Scanned.{proper_scan}
 use Rattle.cmd_text.proofs.ReadExactly.{ended_well, read_text_exactly, read_fault_exactly, one_file}
 use Rattle.cmd_text.proofs.MainRead.{MainRead, main_read}
+use Rattle.cmd_tree.specs.declared.limits.TheConstants.{MAX_FILE_BYTES, MAX_SYMBOLS, MAX_PROCESSES, MAX_PLACES}
 use Rattle.di_top.specs.Sources.{procs_of, main_of, Sourced, TooManySymbols, TooManyProcs, TooManyPlaces, Main, within_limits, sourced, IsFile, Source}
 
 -- ---- the factors of `main`
@@ -41,7 +42,7 @@ procs_of_use (Named v ∷ fs) u gs = refl
 
 -- ---- what was read
 record Alone (bytes : List ℕ) (names : List (List ℕ)) (procs : List Proc) : Type 0 where
-  few : length bytes ≤ 1048576
+  few : length bytes ≤ MAX_FILE_BYTES
   main : MainRead bytes names procs
 
 alone_read : (names : List (List ℕ)) (ss : List Sentence) (procs : List Proc) (f : IsFile names ss) → main_of ss ≡ Some procs → Alone f.bytes names procs
@@ -62,7 +63,7 @@ few_by names procs false false false e = (refl, refl, refl)
 pub is_command : (names : List (List ℕ)) (ss : List Sentence) (procs : List Proc) → IsFile names ss → main_of ss ≡ Some procs → IsDistinct bytes_eq names → within_limits names procs ≡ Main names procs → IsCommand names procs
 is_command names ss procs f e d w =
     let a = alone_read names ss procs f e in
-    let l = few_by names procs (nat_lt 1024 (length names)) (nat_lt 256 (length procs)) (nat_lt 8192 (places_of_all procs)) w in
+    let l = few_by names procs (nat_lt MAX_SYMBOLS (length names)) (nat_lt MAX_PROCESSES (length procs)) (nat_lt MAX_PLACES (places_of_all procs)) w in
     record {
       some = a.main.some;
       shaped = a.main.shaped;
@@ -71,9 +72,9 @@ is_command names ss procs f e d w =
       distinct = d;
       formed = a.main.formed;
       few_brackets = a.main.few_brackets;
-      few_symbols = ltb-false 1024 (length names) l.0;
-      few_procs = ltb-false 256 (length procs) l.1;
-      few_places = ltb-false 8192 (places_of_all procs) l.2;
+      few_symbols = ltb-false MAX_SYMBOLS (length names) l.0;
+      few_procs = ltb-false MAX_PROCESSES (length procs) l.1;
+      few_places = ltb-false MAX_PLACES (places_of_all procs) l.2;
     }
 
 -- ---- bytes are one text, and it is one thing

@@ -4,12 +4,12 @@ use Rattle.std.specs.Prelude.{◌⊎◌, option_map}
 use Rattle.std.specs.Option.{IfSome}
 use Rattle.std.proofs.lemmas.List.{take_all, length-take}
 use Rattle.cmd_tree.specs.declared.tree.Proc.{Proc}
+use Rattle.cmd_tree.specs.declared.limits.TheConstants.{MAX_FILE_BYTES}
 use Rattle.cmd_text.specs.declared.file.Sentence.{Sentence}
 use Rattle.cmd_text.specs.declared.file.Refusal.{Refusal}
 use Rattle.cmd_text.specs.declared.file.Refusal.TheVariants as text
 use Rattle.cmd_text.specs.Fault as faults
-use Rattle.cmd_text.specs.Source.{IsFaultOfBytes}
-use Rattle.cmd_text.specs.ScanView.{fault_of}
+use Rattle.cmd_text.specs.Source.{IsFaultOfBytes, fault_of}
 use Rattle.di_grammar.specs.declared.answer.Broken.{Broken}
 use Rattle.di_grammar.specs.Rules.{broken}
 use Rattle.di_grammar.proofs.Answering.{admitted_none}
@@ -21,12 +21,12 @@ use Rattle.di_top.specs.declared.source.SourceRefusal.TheVariants as source
 use Rattle.di_top.specs.Sources as spec
 use Rattle.di_top.specs.Sources.{Sourced, Main, Source, IsFileOf, sourced, TellsFile}
 use Rattle.di_top.specs.Calls.{Reading, Loaded}
-use Rattle.di_top.specs.CommandFiles.{most_bytes, command_cap, refused_as, told_of_text, told_of_source, StopsWith, TooLong, Faulty, Refuses, IsAdmittedText}
+use Rattle.di_top.specs.CommandFiles.{command_cap, refused_as, told_of_text, told_of_source, StopsWith, TooLong, Faulty, Refuses, IsAdmittedText}
 use Rattle.di_top.specs.Plans.{IsStop}
 use Rattle.di_top.proofs.Sourcing.{one_source, no_source, one_fault}
 
 -- ---- what stops a call
-pub text_stops : (bytes : List ℕ) (refusal : Refusal) → length bytes ≤ most_bytes → IfSome (fault_of refusal) (λ f. IsFaultOfBytes bytes f)
+pub text_stops : (bytes : List ℕ) (refusal : Refusal) → length bytes ≤ MAX_FILE_BYTES → IfSome (fault_of refusal) (λ f. IsFaultOfBytes bytes f)
     → (told_of_text refusal ≡ NoMemory) ⊎ StopsWith bytes (told_of_text refusal)
 text_stops bytes (text.BadByte at) few h = inr (Faulty (text.BadByte at) (faults.BadByte at) few refl h refl)
 text_stops bytes (text.BadToken at) few h = inr (Faulty (text.BadToken at) (faults.BadToken at) few refl h refl)
@@ -68,11 +68,11 @@ one_text bytes names others procs qrocs a b =
     let same : Main names procs ≡ Main others qrocs = one_source bytes (Main names procs) (Main others qrocs) a.source b.source in cc
 
 -- bytes that were loaded and are within the limit are the whole content
-pub loaded_whole : (r : Reading) (file bytes : List ℕ) → Loaded r file command_cap bytes → length bytes ≤ most_bytes
+pub loaded_whole : (r : Reading) (file bytes : List ℕ) → Loaded r file command_cap bytes → length bytes ≤ MAX_FILE_BYTES
     → (all : List ℕ) → r.content file ≡ Some all → bytes ≡ all
 loaded_whole r file bytes l few all told =
     let cut : bytes ≡ take command_cap all = l.told all told in
-    let short : length all ≤ most_bytes = omega (arith, ap length cut, length-take command_cap all) in
+    let short : length all ≤ MAX_FILE_BYTES = omega (arith, ap length cut, length-take command_cap all) in
     cut ∙ take_all command_cap all (omega arith)
 
 -- what stops a call is no end of work

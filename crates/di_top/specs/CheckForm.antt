@@ -4,7 +4,7 @@ use Rattle.cmd_tree.specs.declared.tree.Proc.{Proc}
 use Rattle.cmd_tree.specs.Limits.{places_of_all}
 use Rattle.di_top.specs.declared.outcome.Outcome.{Outcome}
 use Rattle.di_top.specs.declared.outcome.Outcome.TheVariants.{Done}
-use Rattle.di_top.specs.declared.report.Counts.{Counts}
+use Rattle.di_top.specs.declared.check_form.Counts.{Counts}
 use Rattle.text_lines.specs.Lines.{numbered_line}
 use Rattle.di_top.specs.Calls.{Reading}
 use Rattle.di_top.specs.CommandFiles.{FileHolds, FileGives, FileAdmits}

@@ -1,12 +1,12 @@
 -- What a command file is to each form of words that takes the command of `main`: it stops the call, or gives an
 -- admitted command.
-use Rattle.std.specs.Prelude.{◌≡◌, ℕ, ◌≤◌, ◌<◌, List, Option, Some, option_map, length}
+use Rattle.std.specs.Prelude.{◌≡◌, ℕ, suc, ◌≤◌, ◌<◌, List, Option, Some, option_map, length}
 use Rattle.cmd_tree.specs.declared.tree.Proc.{Proc}
+use Rattle.cmd_tree.specs.declared.limits.TheConstants.{MAX_FILE_BYTES}
 use Rattle.cmd_text.specs.declared.file.Refusal.{Refusal}
 use Rattle.cmd_text.specs.declared.file.Refusal.TheVariants as text
 use Rattle.cmd_text.specs.Fault as faults
-use Rattle.cmd_text.specs.Source.{IsFaultOfBytes}
-use Rattle.cmd_text.specs.ScanView.{fault_of}
+use Rattle.cmd_text.specs.Source.{IsFaultOfBytes, fault_of}
 use Rattle.di_grammar.specs.Rules.{broken, Admitted}
 use Rattle.di_top.specs.declared.outcome.Outcome.{Outcome}
 use Rattle.di_top.specs.declared.outcome.Outcome.TheVariants.{Refused, ReadFault, NoMemory, Limit}
@@ -16,13 +16,9 @@ use Rattle.di_top.specs.declared.source.SourceRefusal.{SourceRefusal}
 use Rattle.di_top.specs.declared.source.SourceRefusal.TheVariants as source
 use Rattle.di_top.specs.Calls.{Reading, Loaded, Unread}
 
--- the most bytes that a command file may have
-abbrev pub most_bytes : ℕ
-most_bytes = 1048576
-
 -- a command file is loaded with one byte more, so that a longer one is seen to be longer
 abbrev pub command_cap : ℕ
-command_cap = 1048577
+command_cap = suc MAX_FILE_BYTES
 
 -- what is answered of a file that is this, where it gives no admitted command
 abbrev pub refused_as : Sourced → Option Outcome
@@ -50,8 +46,8 @@ told_of_source source.NoMemory = NoMemory
 
 -- What these bytes stop a call with: they are too many, they have a fault, or their file is refused.
 pub data StopsWith (bytes : List ℕ) (outcome : Outcome) : Type 0 where
-  TooLong : most_bytes < length bytes → outcome ≡ Limit 1 (length bytes) → StopsWith bytes outcome
-  Faulty : (refusal : Refusal) (fault : faults.Fault) → length bytes ≤ most_bytes → fault_of refusal ≡ Some fault → IsFaultOfBytes bytes fault
+  TooLong : MAX_FILE_BYTES < length bytes → outcome ≡ Limit 1 (length bytes) → StopsWith bytes outcome
+  Faulty : (refusal : Refusal) (fault : faults.Fault) → length bytes ≤ MAX_FILE_BYTES → fault_of refusal ≡ Some fault → IsFaultOfBytes bytes fault
       → outcome ≡ Refused (why.Text refusal) → StopsWith bytes outcome
   Refuses : (is : Sourced) → Source bytes is → refused_as is ≡ Some outcome → StopsWith bytes outcome
 

@@ -1,5 +1,9 @@
 -- The line that is said of each outcome.
 use Rattle.std.specs.Prelude.{ℕ, ◌-◌, List, [], ◌∷◌, ◌++◌, get_or, codes}
+use Rattle.cmd_tree.specs.declared.limits.TheConstants.{
+    MAX_FILE_BYTES, MAX_OPEN_BRACKETS, MAX_SYMBOLS, MAX_PROCESSES, MAX_PLACES, MAX_COMPONENTS, MAX_NETLIST_BYTES,
+    MAX_DRIVEN_STEPS, MAX_BIG,
+}
 use Rattle.cmd_text.specs.declared.file.Refusal.{Refusal}
 use Rattle.cmd_text.specs.declared.file.Refusal.TheVariants as text
 use Rattle.di_grammar.specs.declared.answer.Broken.{Broken}
@@ -33,7 +37,9 @@ why_line (Grammar b) = grammar_line b
 
 -- what each limit allows, from the first on; there are nine
 abbrev pub limits : List ℕ
-limits = 1048576 ∷ 64 ∷ 1024 ∷ 256 ∷ 8192 ∷ 65536 ∷ 16777216 ∷ 262144 ∷ 255 ∷ []
+limits =
+    MAX_FILE_BYTES ∷ MAX_OPEN_BRACKETS ∷ MAX_SYMBOLS ∷ MAX_PROCESSES ∷ MAX_PLACES ∷ MAX_COMPONENTS ∷ MAX_NETLIST_BYTES
+    ∷ MAX_DRIVEN_STEPS ∷ MAX_BIG ∷ []
 
 unfoldable pub allowed : ℕ → ℕ
 allowed limit = get_or limits (limit - 1) 0

@@ -3,6 +3,7 @@
 use Rattle.std.specs.Prelude.{◌≡◌, ℕ, ◌≤◌, nat_lt, List, [], ◌∷◌, length, ⊤, Option, Some, None, option_map, if◌then◌else◌}
 use Rattle.cmd_tree.specs.declared.tree.Proc.{Proc}
 use Rattle.cmd_tree.specs.Limits.{places_of_all}
+use Rattle.cmd_tree.specs.declared.limits.TheConstants.{MAX_FILE_BYTES, MAX_SYMBOLS, MAX_PROCESSES, MAX_PLACES}
 use Rattle.cmd_text.specs.declared.file.Sentence.{Sentence}
 use Rattle.cmd_text.specs.declared.file.Factor.{Factor}
 use Rattle.cmd_text.specs.declared.file.Factor.TheVariants.{Own, Named}
@@ -30,12 +31,12 @@ pub data Sourced : Type 0 where
   TooManyPlaces : ℕ → Sourced
   Main : List (List ℕ) → List Proc → Sourced
 
--- the first limit that is passed: 1,024 symbols, 256 processes, 8,192 symbol places
+-- the first limit that is passed: of symbols, of processes, of symbol places
 abbrev pub within_limits : List (List ℕ) → List Proc → Sourced
 within_limits names procs =
-    if nat_lt 1024 (length names) then TooManySymbols (length names)
-    else if nat_lt 256 (length procs) then TooManyProcs (length procs)
-    else if nat_lt 8192 (places_of_all procs) then TooManyPlaces (places_of_all procs)
+    if nat_lt MAX_SYMBOLS (length names) then TooManySymbols (length names)
+    else if nat_lt MAX_PROCESSES (length procs) then TooManyProcs (length procs)
+    else if nat_lt MAX_PLACES (places_of_all procs) then TooManyPlaces (places_of_all procs)
     else Main names procs
 
 abbrev pub sourced_of : List (List ℕ) → Option (List Proc) → Sourced
@@ -46,9 +47,9 @@ sourced_of names (Some procs) = within_limits names procs
 abbrev pub sourced : List (List ℕ) → List Sentence → Sourced
 sourced names sentences = sourced_of names (main_of sentences)
 
--- the bytes, at most 1,048,576, are a text of these names and sentences
+-- the bytes, no more than a file may have, are a text of these names and sentences
 pub record IsFileOf (bytes : List ℕ) (names : List (List ℕ)) (sentences : List Sentence) : Type 0 where
-  pub few : length bytes ≤ 1048576
+  pub few : length bytes ≤ MAX_FILE_BYTES
   pub text : IsTextOfBytes bytes names sentences
   pub shallow : IsShallowText bytes
 

@@ -7,13 +7,10 @@ use crate::load::load_file;
 use crate::outcome::{Outcome, Why};
 use crate::source::source;
 use cmd_text::read_file;
-use cmd_tree::Command;
+use cmd_tree::{Command, MAX_FILE_BYTES};
 use di_grammar::check;
 use di_io::Shelf;
 use std::alloc::Global;
-
-/// The most bytes that a command file may have.
-const MOST_BYTES: usize = 1_048_576;
 
 /// The admitted command in a file. One byte more than a file may have is loaded, so that a longer one is
 /// seen to be longer.
@@ -24,7 +21,7 @@ pub fn load_command<F: Shelf>(alloc: Global, file: &str, shelf: &mut F) -> Resul
     ensures kept { (other : List ℕ) → F.content shelf.new other ≡ F.content shelf.old other }
     ensures later { (other : List ℕ) → F.faults shelf.old other ≤ F.faults shelf.new other }
 {
-    let bytes = load_file(alloc, file, 1, MOST_BYTES + 1, shelf)?;
+    let bytes = load_file(alloc, file, 1, MAX_FILE_BYTES + 1, shelf)?;
     read_command(alloc, &bytes)
 }
 
@@ -34,7 +31,7 @@ pub fn read_command(alloc: Global, bytes: &[u8]) -> Result<Command, Outcome>
     ensures ok { IfOk result (λ command. IsAdmittedText bytes.now command.names command.procs) }
     ensures stop { IfErr result (λ stop. (stop ≡ Outcome.NoMemory) ⊎ StopsWith bytes.now stop) }
 {
-    if bytes.len() > MOST_BYTES {
+    if bytes.len() > MAX_FILE_BYTES {
         return Err(Outcome::Limit {
             limit: 1,
             value: bytes.len() as u64,

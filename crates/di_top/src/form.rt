@@ -3,6 +3,7 @@ ghost use Rattle.std.specs.Option.{IfSome};
 ghost use Rattle.std.specs.List.{range_with_len};
 ghost use Rattle.cmd_tree.specs.Limits.{places_of_all};
 ghost use Rattle.cmd_tree.specs.Tree.{places_of};
+ghost use Rattle.cmd_tree.specs.declared.limits.TheConstants.{MAX_PLACES};
 ghost use Rattle.di_top.specs.Forms.{TakesThenGives, Compiles, IsFormed, BodyOf, BurstsOf, mark_of};
 
 use cmd_tree::{Command, Dir, Item, Mark, Proc, Seq};
@@ -30,7 +31,7 @@ pub fn read_form(command: Command) -> Option<Form>
 }
 
 fn process_sizes(procs: &[Proc]) -> Option<(u32, u32)>
-    requires { places_of_all procs.now ≤ 8192 }
+    requires { places_of_all procs.now ≤ MAX_PLACES }
     ensures formed { IfSome result (λ sizes. TakesThenGives procs.now sizes.0 sizes.1) }
     ensures other { result ≡ None → Compiles procs.now → ⊥ }
 {
@@ -44,7 +45,7 @@ fn process_sizes(procs: &[Proc]) -> Option<(u32, u32)>
 }
 
 fn body_sizes(body: &Seq) -> Option<(u32, u32)>
-    requires { places_of body.now ≤ 8192 }
+    requires { places_of body.now ≤ MAX_PLACES }
     ensures formed { IfSome result (λ sizes. BodyOf body.now sizes.0 sizes.1) }
     ensures other { result ≡ None → (n m : ℕ) → BodyOf body.now n m → ⊥ }
 {
@@ -55,7 +56,7 @@ fn body_sizes(body: &Seq) -> Option<(u32, u32)>
 }
 
 fn burst_sizes(first: &[Mark], last: &[Mark]) -> Option<(u32, u32)>
-    requires { length first.now + length last.now ≤ 8192 }
+    requires { length first.now + length last.now ≤ MAX_PLACES }
     ensures formed { IfSome result (λ sizes. BurstsOf first.now last.now sizes.0 sizes.1) }
     ensures other { result ≡ None → (n m : ℕ) → BurstsOf first.now last.now n m → ⊥ }
 {

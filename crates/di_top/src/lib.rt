@@ -1,20 +1,17 @@
 //! The top call of the program: words in, bytes out.
 #![tactic(auto)]
 
+mod check_form;
 mod command;
+mod compile_form;
 mod form;
 mod laws;
 mod load;
 mod network;
-#[cfg(test)]
-mod network_tests;
 mod outcome;
 mod plan;
-mod report;
 mod say;
 mod source;
-#[cfg(test)]
-mod tests;
 mod top;
 mod words;
 

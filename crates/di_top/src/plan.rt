@@ -1,25 +1,19 @@
-ghost use Rattle.std.specs.Prelude.{◌≡◌, ◌≤◌, ◌⊎◌, ℕ, List, IfOk, IfErr, OnOk, OnErr, Some};
+ghost use Rattle.std.specs.Prelude.{◌≡◌, ◌≤◌, ℕ, List, IfOk, IfErr, OnOk, OnErr, Some};
 ghost use Rattle.di_io.specs.Faults.{Rose};
 ghost use Rattle.di_io.specs.Written.{Gains, GainsFront};
-ghost use Rattle.di_top.specs.Requests.{CompileWide as AskedWide, Check as AskedCheck};
 ghost use Rattle.di_top.specs.Asked.{meant};
 ghost use Rattle.di_top.specs.Calls.{reading};
-ghost use Rattle.di_top.specs.CompileForm.{Compiled, CompiledTo};
 ghost use Rattle.di_top.specs.Outcomes.{Gives, Prints};
-ghost use Rattle.di_top.specs.Forms.{Compiles, IsFormed};
 ghost use Rattle.di_top.specs.Plans.{text_of, IsStop};
 
-use crate::command::load_command;
-use crate::form::{Form, read_form};
-use crate::network::build_net;
-use crate::outcome::{Outcome, Why};
-use crate::report::{Counts, put_counts};
+use crate::check_form::{Counts, plan_check, put_counts};
+use crate::compile_form::plan_compile;
+use crate::outcome::Outcome;
 use crate::words::Task;
-use cmd_tree::Command;
 use di_io::{PutFault, Shelf, Sink};
 use net_core::Net;
 use net_text::write_net;
-use std::alloc::{AllocError, Global};
+use std::alloc::Global;
 
 /// What is to be printed. It owns all memory that printing needs.
 #[derive(Drop)]
@@ -55,48 +49,4 @@ pub fn put_plan<S: Sink>(plan: &Plan, sink: &mut S) -> Result<(), PutFault>
         Plan::Compile(net) => write_net(net, sink),
         Plan::Check(counts) => put_counts(*counts, sink),
     }
-}
-
-fn plan_compile<F: Shelf>(alloc: Global, file: &str, shelf: &mut F) -> Result<Plan, Outcome>
-    ensures ok { IfOk result (λ plan. Gives (Some (AskedWide file.now)) (reading F.content F.faults shelf.old shelf.new) Outcome.Done
-        × Prints (Some (AskedWide file.now)) (reading F.content F.faults shelf.old shelf.new) (text_of plan)) }
-    ensures stop { IfErr result (λ stop. IsStop stop
-        × Gives (Some (AskedWide file.now)) (reading F.content F.faults shelf.old shelf.new) stop) }
-    ensures kept { (other : List ℕ) → F.content shelf.new other ≡ F.content shelf.old other }
-    ensures later { (other : List ℕ) → F.faults shelf.old other ≤ F.faults shelf.new other }
-{
-    let command = load_command(alloc, file, shelf)?;
-    let net = compile(alloc, command)?;
-    Ok(Plan::Compile(net))
-}
-
-fn plan_check<F: Shelf>(alloc: Global, file: &str, shelf: &mut F) -> Result<Plan, Outcome>
-    ensures ok { IfOk result (λ plan. Gives (Some (AskedCheck file.now)) (reading F.content F.faults shelf.old shelf.new) Outcome.Done
-        × Prints (Some (AskedCheck file.now)) (reading F.content F.faults shelf.old shelf.new) (text_of plan)) }
-    ensures stop { IfErr result (λ stop. IsStop stop
-        × Gives (Some (AskedCheck file.now)) (reading F.content F.faults shelf.old shelf.new) stop) }
-    ensures kept { (other : List ℕ) → F.content shelf.new other ≡ F.content shelf.old other }
-    ensures later { (other : List ℕ) → F.faults shelf.old other ≤ F.faults shelf.new other }
-{
-    let command = load_command(alloc, file, shelf)?;
-    Ok(Plan::Check(Counts::of(&command)))
-}
-
-/// The network of a command. It answers `NotThisForm` exactly where the command has another form.
-fn compile(alloc: Global, command: Command) -> Result<Net, Outcome>
-    ensures ok { IfOk result (λ net. CompiledTo command net) }
-    ensures stop { IfErr result (λ stop. (stop ≡ Outcome.NoMemory)
-        ⊎ ((Compiles command.procs → ⊥) × (stop ≡ Outcome.Refused Why.NotThisForm))) }
-{
-    match read_form(command) {
-        Some(form) => Ok(compile_form(alloc, form)?),
-        None => Err(Outcome::Refused(Why::NotThisForm)),
-    }
-}
-
-fn compile_form(alloc: Global, form: Form) -> Result<Net, AllocError>
-    requires { IsFormed form }
-    ensures { IfOk result (λ net. Compiled form net) }
-{
-    build_net(alloc, form)
 }

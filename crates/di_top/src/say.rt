@@ -9,6 +9,10 @@ ghost use Rattle.di_top.specs.Say.{say_line, why_line, text_line, grammar_line, 
 
 use crate::outcome::{Outcome, Why};
 use cmd_text::Refusal;
+use cmd_tree::{
+    MAX_BIG, MAX_COMPONENTS, MAX_DRIVEN_STEPS, MAX_FILE_BYTES, MAX_NETLIST_BYTES,
+    MAX_OPEN_BRACKETS, MAX_PLACES, MAX_PROCESSES, MAX_SYMBOLS,
+};
 use di_grammar::Broken;
 use di_io::{Printer, PutFault, Sink};
 use text_lines::{print_numbered, print_worded};
@@ -86,7 +90,15 @@ fn print_limit<S: Sink>(limit: u8, value: u64, printer: &mut Printer<'_, S>)
 
 /// What each limit allows, from the first on.
 const LIMITS: [u64; 9] = [
-    1_048_576, 64, 1024, 256, 8192, 65_536, 16_777_216, 262_144, 255,
+    MAX_FILE_BYTES as u64,
+    MAX_OPEN_BRACKETS as u64,
+    MAX_SYMBOLS as u64,
+    MAX_PROCESSES as u64,
+    MAX_PLACES as u64,
+    MAX_COMPONENTS as u64,
+    MAX_NETLIST_BYTES as u64,
+    MAX_DRIVEN_STEPS as u64,
+    MAX_BIG as u64,
 ];
 
 /// What a limit allows; 0 of a number that no limit has.

@@ -7,29 +7,20 @@ ghost use Rattle.di_top.specs.Sources.{sourced, main_of, procs_of, within_limits
 ghost use Rattle.di_top.specs.Sources as spec;
 
 use cmd_text::{Factor, File, NameTable, Sentence};
-use cmd_tree::{Command, Proc, places_in_all};
+use cmd_tree::{Command, MAX_PLACES, MAX_PROCESSES, MAX_SYMBOLS, Proc, places_in_all};
 use sqlite_items::Items;
 use std::alloc::{AllocError, AllocFailed, Global};
-
-/// How many symbols a command may have.
-const MOST_SYMBOLS: usize = 1024;
-
-/// How many processes a command may have.
-const MOST_PROCS: usize = 256;
-
-/// How many symbol places a command may have.
-const MOST_PLACES: u32 = 8192;
 
 /// Why a command file does not give a command. `count` is the number that was found.
 #[derive(Debug, Clone, Copy, PartialEq, Eq)]
 pub enum SourceRefusal {
     /// There is a definition, or `main` uses one.
     NotThisForm,
-    /// There are more than 1,024 symbols.
+    /// There are more than `MAX_SYMBOLS` symbols.
     TooManySymbols { count: u64 },
-    /// There are more than 256 processes.
+    /// There are more than `MAX_PROCESSES` processes.
     TooManyProcs { count: u64 },
-    /// There are more than 8,192 symbol places.
+    /// There are more than `MAX_PLACES` symbol places.
     TooManyPlaces { count: u64 },
     NoMemory,
 }
@@ -110,18 +101,18 @@ fn check_limits(names: &NameTable, procs: &[Proc]) -> Result<(), SourceRefusal>
     ensures distinct { IsDistinct bytes_eq names.now }
 {
     let symbols = names.len();
-    if symbols > MOST_SYMBOLS {
+    if symbols > MAX_SYMBOLS {
         return Err(SourceRefusal::TooManySymbols {
             count: symbols as u64,
         });
     }
-    if procs.len() > MOST_PROCS {
+    if procs.len() > MAX_PROCESSES {
         return Err(SourceRefusal::TooManyProcs {
             count: procs.len() as u64,
         });
     }
     let places = places_in_all(procs);
-    if places > MOST_PLACES {
+    if places > MAX_PLACES {
         return Err(SourceRefusal::TooManyPlaces {
             count: places as u64,
         });

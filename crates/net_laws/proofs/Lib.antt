@@ -12,3 +12,6 @@ pub mod KindRules
 pub mod JoinFork
 pub mod SideBySide
 pub mod ForkParts
+pub mod Blocks
+pub mod ChainWeb
+pub mod Chain

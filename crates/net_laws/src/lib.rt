@@ -4,5 +4,5 @@
 mod laws;
 mod side_by_side;
 
-pub use laws::{forks_net_law, rounds_net_law};
+pub use laws::{fork_chain_law, forks_net_law, rounds_net_law};
 pub use side_by_side::{forks, numbers};

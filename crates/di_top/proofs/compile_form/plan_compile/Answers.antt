@@ -6,7 +6,7 @@ use Rattle.di_top.specs.Plans.{IsStop}
 use Rattle.di_top.specs.Calls.{reading}
 use Rattle.di_top.specs.CompileForm.{CompileUses}
 use Rattle.di_top.proofs.Compiling.{compile_done, compile_stops, file_stops, if_err}
-use Rattle.di_top.proofs.plan.plan_compile.Goals as goal
+use Rattle.di_top.proofs.compile_form.plan_compile.Goals as goal
 
 pub returns-in_err-command-clause-stop : goal.returns-in_err-command-clause-stop
 returns-in_err-command-clause-stop g c =

@@ -1,14 +1,22 @@
-//! What `check F` prints.
+//! The form `check F`.
 #![tactic(auto, using(di_io::proofs::Prints::printing))]
 
-ghost use Rattle.std.specs.Prelude.{◌≡◌, ◌≤◌, OnOk, OnErr};
+ghost use Rattle.std.specs.Prelude.{◌≡◌, ◌≤◌, ℕ, List, IfOk, IfErr, OnOk, OnErr, Some};
 ghost use Rattle.di_io.specs.Faults.{Rose};
 ghost use Rattle.di_io.specs.Written.{Gains, GainsFront};
 ghost use Rattle.di_io.specs.Printing.{prints};
+ghost use Rattle.di_top.specs.Requests.{Check as Asked};
+ghost use Rattle.di_top.specs.Calls.{reading};
 ghost use Rattle.di_top.specs.CheckForm.{counts_of, counts_text};
+ghost use Rattle.di_top.specs.Outcomes.{Gives, Prints};
+ghost use Rattle.di_top.specs.Plans.{text_of, IsStop};
 
+use crate::command::load_command;
+use crate::outcome::Outcome;
+use crate::plan::Plan;
 use cmd_tree::{Command, places_in_all};
-use di_io::{Printer, PutFault, Sink};
+use di_io::{Printer, PutFault, Shelf, Sink};
+use std::alloc::Global;
 use text_lines::print_numbered;
 
 /// How many processes, symbols and symbol places a command has.
@@ -29,6 +37,19 @@ impl Counts {
             places: places_in_all(command.procs.as_slice()) as u64,
         }
     }
+}
+
+/// From the name of a command file to what its command counts, where it is admitted.
+pub fn plan_check<F: Shelf>(alloc: Global, file: &str, shelf: &mut F) -> Result<Plan, Outcome>
+    ensures ok { IfOk result (λ plan. Gives (Some (Asked file.now)) (reading F.content F.faults shelf.old shelf.new) Outcome.Done
+        × Prints (Some (Asked file.now)) (reading F.content F.faults shelf.old shelf.new) (text_of plan)) }
+    ensures stop { IfErr result (λ stop. IsStop stop
+        × Gives (Some (Asked file.now)) (reading F.content F.faults shelf.old shelf.new) stop) }
+    ensures kept { (other : List ℕ) → F.content shelf.new other ≡ F.content shelf.old other }
+    ensures later { (other : List ℕ) → F.faults shelf.old other ≤ F.faults shelf.new other }
+{
+    let command = load_command(alloc, file, shelf)?;
+    Ok(Plan::Check(Counts::of(&command)))
 }
 
 /// Puts the lines of an admitted command. It takes no memory. After an error a front of them was put.

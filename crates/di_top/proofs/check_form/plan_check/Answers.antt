@@ -6,7 +6,7 @@ use Rattle.di_top.specs.Plans.{IsStop}
 use Rattle.di_top.specs.Calls.{reading}
 use Rattle.di_top.specs.CheckForm.{CheckUses}
 use Rattle.di_top.proofs.Compiling.{check_done, file_stops, if_err}
-use Rattle.di_top.proofs.plan.plan_check.Goals as goal
+use Rattle.di_top.proofs.check_form.plan_check.Goals as goal
 
 pub returns-in_err-command-clause-stop : goal.returns-in_err-command-clause-stop
 returns-in_err-command-clause-stop g c =

@@ -1,5 +1,6 @@
-use crate::{Outcome, run};
+//! Whole calls: words in, bytes out.
 use di_io::{MemShelf, MemSink};
+use di_top::{Outcome, run};
 use std::alloc::Global;
 use std::test::Fail;
 
@@ -105,6 +106,8 @@ fn answers(rt: HostRuntime) -> Result<(), Fail> {
             2,
         ),
         ("compile wide", Some("main := pref*[a?;b!]."), "", USAGE, 2),
+        ("check F F", Some("main := pref*[a?;b!]."), "", USAGE, 2),
+        ("Check F", Some("main := pref*[a?;b!]."), "", USAGE, 2),
     ];
     for (words, content, out, say, status) in rows {
         let ran = call(alloc, words, content, Vec::new(alloc))?;
@@ -301,6 +304,41 @@ fn repeated(
     }
     text.push_str(end)?;
     Ok(text)
+}
+
+// Processes that take a symbol of their own and give another, woven.
+fn many_processes(alloc: Global, many: u32, inputs: u32) -> Result<String, Fail> {
+    let mut text = String::from_str(alloc, "main := ")?;
+    for process in 0..many {
+        if process > 0 {
+            text.push_str("||")?;
+        }
+        text.push_str("pref*[")?;
+        for input in 0..inputs {
+            write!(text, "a{process}_{input}?;b{process}_{input}!;")?;
+        }
+        write!(text, "c{process}?;d{process}!]")?;
+    }
+    text.push('.')?;
+    Ok(text)
+}
+
+// A weave of 257 processes, and a command of 1,026 symbols.
+#[test]
+fn refuses_many_processes_and_symbols(rt: HostRuntime) -> Result<(), Fail> {
+    let alloc = rt.alloc();
+    let rows = [
+        (257, 0, "limit L4: found 257, allowed 256\n"),
+        (27, 18, "limit L3: found 1026, allowed 1024\n"),
+    ];
+    for (many, inputs, say) in rows {
+        let text = many_processes(alloc, many, inputs)?;
+        let ran = call(alloc, "check F", Some(text.as_str()), Vec::new(alloc))?;
+        assert!(rt; ran.out.bytes().is_empty());
+        assert!(rt; ran.say.bytes() == say.as_bytes(), "{many}");
+        assert_eq!(rt; ran.outcome.status(), 6);
+    }
+    Ok(())
 }
 
 // Files past a limit: too many brackets, bytes and symbol places.
