@@ -70,9 +70,10 @@ impl Ord for Key {
     ghost matches_eq = { key_eq };
 
     fn cmp(&self, other: &Key) -> Ordering {
-        self.number
-            .cmp(&other.number)
-            .then(self.bytes.as_slice().cmp(&other.bytes.as_slice()))
+        match self.number.cmp(&other.number) {
+            Ordering::Equal => self.bytes.as_slice().cmp(&other.bytes.as_slice()),
+            apart => apart,
+        }
     }
 }
 
