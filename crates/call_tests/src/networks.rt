@@ -67,7 +67,10 @@ fn an_open_network_names_its_least_open_wire(rt: HostRuntime) -> Result<(), Fail
     let alloc = rt.alloc();
     let mut builder = NetBuilder::new(alloc, NodeSpec::Kind(Kind::Wire))?;
     assert_eq!(rt; builder.wires(3)?, 0);
-    assert_eq!(rt; builder.node(NodeSpec::Kind(Kind::Wire), vec![in alloc; 0, 1]?)?, 1);
+    assert_eq!(rt;
+        builder.node(NodeSpec::Kind(Kind::Wire), vec![in alloc; 0, 1]?)?,
+        1
+    );
     let net = builder.finish(vec![in alloc; 0, 2]?)?;
     assert_eq!(rt; closed(&net), Some(OpenPort { wire: 1 }));
     Ok(())

@@ -91,7 +91,11 @@ fn numbers_names_by_first_occurrence_in_a_table(rt: HostRuntime) -> Result<(), F
     let mut names = NameTable::new(rt.alloc());
     assert!(rt; names.is_empty());
     for (text, index) in [("b", 0), ("a", 1), ("b", 0), ("c7_x", 2), ("a", 1)] {
-        assert_eq!(rt; names.insert(rt.alloc(), text.as_bytes())?, index, "at {text}");
+        assert_eq!(rt;
+            names.insert(rt.alloc(), text.as_bytes())?,
+            index,
+            "at {text}"
+        );
     }
     assert_eq!(rt; names.len(), 3);
     assert_eq!(rt; names.as_slice().len(), 3);
@@ -107,7 +111,11 @@ fn tells_names_apart_that_end_alike(rt: HostRuntime) -> Result<(), Fail> {
     let mut names = NameTable::new(rt.alloc());
     let texts = ["aaaa_abcdefgh", "bbbb_abcdefgh", "a_abcdefgh", "_abcdefgh"];
     for (index, text) in texts.iter().enumerate() {
-        assert_eq!(rt; names.insert(rt.alloc(), text.as_bytes())?, index, "at {text}");
+        assert_eq!(rt;
+            names.insert(rt.alloc(), text.as_bytes())?,
+            index,
+            "at {text}"
+        );
     }
     assert_eq!(rt; names.insert(rt.alloc(), b"bbbb_abcdefgh")?, 1);
     assert_eq!(rt; names.len(), 4);

@@ -57,7 +57,6 @@ prints_admitted (Some (CompileWide file)) r text p t =
     holds_admits Compiles r file p.command.names p.command.procs p.held (compiles p.command p.netlist.net p.netlist.compiled) t.0.0 t.0.1
 prints_admitted (Some (Check file)) r text p t = holds_admits (λ procs. ⊤) r file p.names p.procs p.held tt t.0.0 t.0.1
 
-
 -- ---- one outcome
 -- the bytes that are loaded of a content are the same each time
 one_load : (r : Reading) (file bytes others : List ℕ) → ((all : List ℕ) × (r.content file ≡ Some all)) → Loaded r file command_cap bytes

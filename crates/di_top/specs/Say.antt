@@ -1,8 +1,15 @@
 -- The line that is said of each outcome.
 use Rattle.std.specs.Prelude.{ℕ, ◌-◌, List, [], ◌∷◌, ◌++◌, get_or, codes}
 use Rattle.cmd_tree.specs.declared.limits.TheConstants.{
-    MAX_FILE_BYTES, MAX_OPEN_BRACKETS, MAX_SYMBOLS, MAX_PROCESSES, MAX_PLACES, MAX_COMPONENTS, MAX_NETLIST_BYTES,
-    MAX_DRIVEN_STEPS, MAX_BIG,
+  MAX_FILE_BYTES,
+  MAX_OPEN_BRACKETS,
+  MAX_SYMBOLS,
+  MAX_PROCESSES,
+  MAX_PLACES,
+  MAX_COMPONENTS,
+  MAX_NETLIST_BYTES,
+  MAX_DRIVEN_STEPS,
+  MAX_BIG,
 }
 use Rattle.cmd_text.specs.declared.file.Refusal.{Refusal}
 use Rattle.cmd_text.specs.declared.file.Refusal.TheVariants as text
