@@ -1,0 +1,2 @@
+let cell := pref*[a?;b!].
+main := cell.
