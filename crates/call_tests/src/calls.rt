@@ -149,9 +149,9 @@ fn push_burst(text: &mut String, first: u16, mark: char) -> Result<(), Fail> {
     Ok(())
 }
 
-// As many symbols as a command may have.
+// As many symbols as a command may have; the netlist takes so few puts that the eighth never comes.
 #[test]
-fn compiles_many_symbols(rt: HostRuntime) -> Result<(), Fail> {
+fn compiles_many_symbols_in_few_puts(rt: HostRuntime) -> Result<(), Fail> {
     let alloc = rt.alloc();
     let mut text = String::from_str(alloc, "main := pref*[")?;
     push_burst(&mut text, 0, '?')?;
@@ -162,9 +162,10 @@ fn compiles_many_symbols(rt: HostRuntime) -> Result<(), Fail> {
         alloc,
         "compile wide F",
         Some(text.as_str()),
-        Vec::new(alloc),
+        vec![in alloc; (8, 0)]?,
     )?;
     assert_eq!(rt; ran.outcome, Outcome::Done);
+    assert!(rt; ran.out.bytes().ends_with(b"\nend\n"));
     assert!(rt; ran.say.bytes().is_empty());
     Ok(())
 }

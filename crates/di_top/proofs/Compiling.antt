@@ -39,20 +39,22 @@ compiles command net c =
     let P : Command → Type 0 = λ d. TakesThenGives d.procs c.form.inputs c.form.outputs in
     record { inputs = c.form.inputs; outputs = c.form.outputs; form = subst P c.of_command c.formed }
 
-pub compile_done : (r : Reading) (file : List ℕ) (command : Command) (net : Circuit) → FileHolds r file command.names command.procs
-    → CompiledTo command net → Gives (Some (CompileWide file)) r Done × Prints (Some (CompileWide file)) r (net_text net)
-compile_done r file command net h c = (
-  inr (Taken command.names command.procs h (inl (compiles command net c, refl))),
-  record { command = command; held = h; netlist = record { net = net; compiled = c; is = refl } },
-)
+pub compile_done : (r : Reading) (file : List ℕ) (command : Command) (form : Form) (net : Circuit) → FileHolds r file command.names command.procs
+    → IsFormed form × (form.command ≡ command) → net ≡ form_net form.command form.inputs form.outputs
+    → Gives (Some (CompileWide file)) r Done × Prints (Some (CompileWide file)) r (net_text net)
+compile_done r file command form net h f e =
+    let c : CompiledTo command net = record { form = form; of_command = f.1; formed = f.0; compiled = compiled form net f.0 e } in (
+      inr (Taken command.names command.procs h (inl (compiles command net c, refl))),
+      record { command = command; held = h; netlist = record { net = net; compiled = c; is = refl } },
+    )
 
--- an admitted command that does not compile
-pub compile_stops : (r : Reading) (file : List ℕ) (command : Command) (stop : Outcome) → FileHolds r file command.names command.procs
-    → ((stop ≡ NoMemory) ⊎ ((Compiles command.procs → ⊥) × (stop ≡ Refused NotThisForm)))
-    → IsStop stop × Gives (Some (CompileWide file)) r stop
-compile_stops r file command stop h (inl e) = let P : Outcome → Type 0 = IsStop in (subst P (sym e) tt, inl e)
-compile_stops r file command stop h (inr (other, e)) =
-    let P : Outcome → Type 0 = IsStop in (subst P (sym e) tt, inr (Taken command.names command.procs h (inr (other, e))))
+-- an admitted command of another form
+pub other_form : (r : Reading) (file : List ℕ) (command : Command) → FileHolds r file command.names command.procs
+    → (Compiles command.procs → ⊥) → IsStop (Refused NotThisForm) × Gives (Some (CompileWide file)) r (Refused NotThisForm)
+other_form r file command h other = (tt, inr (Taken command.names command.procs h (inr (other, refl))))
+
+pub no_memory : (r : Reading) (file : List ℕ) (stop : Outcome) → stop ≡ NoMemory → IsStop stop × Gives (Some (CompileWide file)) r stop
+no_memory r file stop e = let P : Outcome → Type 0 = IsStop in (subst P (sym e) tt, inl e)
 
 pub check_done : (r : Reading) (file : List ℕ) (command : Command) → FileHolds r file command.names command.procs
     → Gives (Some (Check file)) r Done × Prints (Some (Check file)) r (counts_text (counts_of command.names command.procs))

@@ -1,10 +1,10 @@
 -- What the forms of words give where the contents of their files are told: one outcome, and Done exactly of those that they admit.
-use Rattle.std.proofs.Common.{◌≡◌, ◌≢◌, ◌<◌, ℕ, List, Option, Some, None, arith, refl, sym, ◌∙◌, subst, ap, length, inl, inr}
+use Rattle.std.proofs.Common.{◌≡◌, ℕ, List, Option, Some, None, arith, refl, sym, ◌∙◌, subst, ap, length, inl, inr}
 use Rattle.std.proofs.lemmas.List.{take_all}
 use Rattle.std.specs.Prelude.{⊤}
 use Rattle.cmd_tree.specs.declared.tree.Proc.{Proc}
 use Rattle.di_top.specs.declared.outcome.Outcome.{Outcome}
-use Rattle.di_top.specs.declared.outcome.Outcome.TheVariants.{Done, Usage, NoMemory}
+use Rattle.di_top.specs.declared.outcome.Outcome.TheVariants.{Done}
 use Rattle.di_top.specs.Requests.{Request, CompileWide, Check, files_of}
 use Rattle.di_top.specs.Calls.{Reading, Loaded, Unread, Quiet, Tells}
 use Rattle.di_top.specs.Forms.{Compiles}

@@ -1,9 +1,10 @@
 -- What is read of `main` alone is a command, where it is within the limits.
-use Rattle.std.proofs.Common.{◌≡◌, ℕ, ◌<◌, ◌≤◌, ◌^◌, Bool, true, false, List, [], ◌∷◌, ◌++◌, map, length, Option, Some, None, Result, Err, refl, sym, ◌∙◌, ap, arith}
+use Rattle.std.proofs.Common.{◌≡◌, ℕ, ◌<◌, ◌≤◌, ◌^◌, Bool, true, false, List, [], ◌∷◌, ◌++◌, map, length, Option, Some, None, Err, refl, sym, ◌∙◌, ap, arith}
 use Rattle.std.specs.Prelude.{nat_lt, if◌then◌else◌, option_map}
 use Rattle.std.specs.List.{IsDistinct}
 use Rattle.std.specs.Str.{bytes_eq}
 use Rattle.std.proofs.lemmas.Bool.{ltb-false}
+use Rattle.std.proofs.lemmas.List.{append_assoc}
 use Rattle.cmd_tree.specs.declared.tree.Proc.{Proc}
 use Rattle.cmd_tree.specs.Limits.{places_of_all, IsCommand}
 use Rattle.cmd_text.specs.declared.file.Sentence.{Sentence}
@@ -12,9 +13,7 @@ use Rattle.cmd_text.specs.declared.file.Factor.TheVariants.{Own, Named}
 use Rattle.cmd_text.specs.declared.file.Named as use_of
 use Rattle.cmd_text.specs.Source.{IsFaultOfBytes}
 use Rattle.cmd_text.specs.Fault.{Fault}
-use Rattle.cmd_text.specs.Reading.{Standing, answer}
 use Rattle.cmd_text.specs.Scan.{Between, scan}
-use Rattle.cmd_text.proofs.FileSound.{cat-assoc}
 use Rattle.cmd_text.proofs.Scanned.{proper_scan}
 use Rattle.cmd_text.proofs.ReadExactly.{ended_well, read_text_exactly, read_fault_exactly, one_file}
 use Rattle.cmd_text.proofs.MainRead.{MainRead, main_read}
@@ -85,7 +84,7 @@ one_source bytes a b s t =
 
 -- ---- what the loop over the factors finds, from the last one
 pub found_use : (all old new : List Factor) (ps : List Proc) (f : Factor) (u : use_of.Named) → all ≡ old ++ map Own ps → old ≡ new ++ f ∷ [] → f ≡ Named u → None ≡ procs_of all
-found_use all old new ps f u e g h = sym (ap procs_of (e ∙ ap (λ l. l ++ map Own ps) (g ∙ ap (λ v. new ++ v ∷ []) h) ∙ cat-assoc new (Named u ∷ []) (map Own ps)) ∙ procs_of_use new u (map Own ps))
+found_use all old new ps f u e g h = sym (ap procs_of (e ∙ ap (λ l. l ++ map Own ps) (g ∙ ap (λ v. new ++ v ∷ []) h) ∙ append_assoc new (Named u ∷ []) (map Own ps)) ∙ procs_of_use new u (map Own ps))
 
 pub found_all : (all old : List Factor) (ps qs : List Proc) → all ≡ old ++ map Own ps → old ≡ [] → qs ≡ ps → Some qs ≡ procs_of all
 found_all all old ps qs e g h = ap (λ l. Some l) h ∙ sym (ap procs_of (e ∙ ap (λ l. l ++ map Own ps) g) ∙ procs_of_own ps)
@@ -96,10 +95,3 @@ no_source bytes f is h s = absurd (ok_err (sym ((read_text_exactly bytes s.names
   where
     ok_err : ended_well s.names s.sentences ≡ Err f → ⊥
     ok_err e = cc
-
--- bytes have one fault
-one_err : (a : Result Standing Fault) (f g : Fault) → a ≡ Err f → a ≡ Err g → f ≡ g
-one_err a f g e d = cc
-
-pub one_fault : (bytes : List ℕ) (f g : Fault) → IsFaultOfBytes bytes f → IsFaultOfBytes bytes g → f ≡ g
-one_fault bytes f g h k = one_err (answer bytes) f g ((read_fault_exactly bytes f).1 h) ((read_fault_exactly bytes g).1 k)

@@ -10,6 +10,7 @@ use Rattle.cmd_text.specs.declared.file.Refusal.{Refusal}
 use Rattle.cmd_text.specs.declared.file.Refusal.TheVariants as text
 use Rattle.cmd_text.specs.Fault as faults
 use Rattle.cmd_text.specs.Source.{IsFaultOfBytes, fault_of}
+use Rattle.cmd_text.proofs.WholeFile.{one_fault}
 use Rattle.di_grammar.specs.declared.answer.Broken.{Broken}
 use Rattle.di_grammar.specs.Rules.{broken}
 use Rattle.di_grammar.proofs.Answering.{admitted_none}
@@ -23,7 +24,7 @@ use Rattle.di_top.specs.Sources.{Sourced, Main, Source, IsFileOf, sourced, Tells
 use Rattle.di_top.specs.Calls.{Reading, Loaded}
 use Rattle.di_top.specs.CommandFiles.{command_cap, refused_as, told_of_text, told_of_source, StopsWith, TooLong, Faulty, Refuses, IsAdmittedText}
 use Rattle.di_top.specs.Plans.{IsStop}
-use Rattle.di_top.proofs.Sourcing.{one_source, no_source, one_fault}
+use Rattle.di_top.proofs.Sourcing.{one_source, no_source}
 
 -- ---- what stops a call
 pub text_stops : (bytes : List ℕ) (refusal : Refusal) → length bytes ≤ MAX_FILE_BYTES → IfSome (fault_of refusal) (λ f. IsFaultOfBytes bytes f)

@@ -1,7 +1,7 @@
 use Rattle.std.proofs.Common.{◌≡◌, ◌+◌, length}
 use Rattle.basic_kinds.specs.declared.kind.Kind.TheVariants.{Wire}
 use Rattle.net_core.specs.declared.spec.NodeSpec.TheVariants.{Kind}
-use Rattle.call_tests.proofs.components.wires_in_a_row.Given as goal
+use Rattle.splice_tests.proofs.components.wires_in_a_row.Given as goal
 
 abbrev pub invariant-loop-from : goal.invariant-loop-from
 invariant-loop-from l = record {

@@ -1,7 +1,7 @@
 use Rattle.std.proofs.Common.{◌≡◌, ◌+◌, length}
 use Rattle.basic_kinds.specs.declared.kind.Kind.TheVariants.{Wire}
 use Rattle.net_core.specs.declared.spec.NodeSpec.TheVariants.{Kind}
-use Rattle.call_tests.proofs.networks.chain.Given as goal
+use Rattle.net_tests.proofs.networks.chain.Given as goal
 
 abbrev pub invariant-loop-behind : goal.invariant-loop-behind
 invariant-loop-behind l = record {

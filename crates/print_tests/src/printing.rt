@@ -2,7 +2,6 @@
 use cmd_text::{put_command, write_command};
 use cmd_tree::{Command, Dir, Item, Mark, Name, NameSet, Proc, Seq, Sym};
 use di_io::{HostShelf, HostSink, LoadFault, MemShelf, MemSink, Printer, Shelf, Sink};
-use di_top::{Outcome, run};
 use sqlite_items::Items;
 use std::alloc::{AllocError, Global};
 use std::io::Write;
@@ -268,41 +267,5 @@ fn writes_bodies(rt: HostRuntime) -> Result<(), Fail> {
     assert!(rt; put_command(&command, &mut sink).is_ok());
     let text = "pref*[a?|(b!||c!)]||pref[(c?|a!);*[(a?||b?);c!]]";
     assert_eq!(rt; sink.bytes(), text.as_bytes());
-    Ok(())
-}
-
-// A file with the command `pref*[(i0?||i1?||..);(o0!||o1!||..)]` of so many inputs and outputs.
-fn wide_file(alloc: Global, count: u32) -> Result<Vec<u8>, Fail> {
-    let mut text = Vec::from_slice(alloc, b"main := pref*[(")?;
-    for index in 0..count {
-        let joint = if index == 0 { "" } else { "||" };
-        text.extend_from_slice(format!(in alloc; "{joint}i{index}?")?.as_bytes())?;
-    }
-    text.extend_from_slice(b");(")?;
-    for index in 0..count {
-        let joint = if index == 0 { "" } else { "||" };
-        text.extend_from_slice(format!(in alloc; "{joint}o{index}!")?.as_bytes())?;
-    }
-    text.extend_from_slice(b")].")?;
-    Ok(text)
-}
-
-// The netlist of a command of 512 inputs and 512 outputs takes few puts: the eighth never comes.
-#[test]
-fn writes_a_netlist_in_few_puts(rt: HostRuntime) -> Result<(), Fail> {
-    let alloc = rt.alloc();
-    let words = vec![in alloc;
-        String::from_str(alloc, "compile")?,
-        String::from_str(alloc, "wide")?,
-        String::from_str(alloc, "F")?,
-    ]?;
-    let files = vec![in alloc; (String::from_str(alloc, "F")?, wide_file(alloc, 512)?)]?;
-    let mut shelf = MemShelf::new(files, Vec::new(alloc));
-    let fails = vec![in alloc; (8, 0)]?;
-    let mut out = MemSink::new(alloc, 100_000, fails)?;
-    let mut say = MemSink::new(alloc, 1000, Vec::new(alloc))?;
-    let outcome = run(alloc, &words, &mut shelf, &mut out, &mut say);
-    assert_eq!(rt; outcome, Outcome::Done);
-    assert!(rt; out.bytes().ends_with(b"\nend\n"));
     Ok(())
 }

@@ -1,0 +1,5 @@
+//! Tests of networks, their builder and their order. The library itself has nothing.
+#![tactic(auto)]
+
+#[cfg(test)]
+mod networks;

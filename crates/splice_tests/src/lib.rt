@@ -1,0 +1,5 @@
+//! Tests of components, and of networks in their places. The library itself has nothing.
+#![tactic(auto)]
+
+#[cfg(test)]
+mod components;
