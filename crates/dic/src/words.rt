@@ -98,9 +98,9 @@ mod tests {
                 return Err(Fail::new("no words"));
             };
             assert_eq!(rt; found.len(), many);
-            let mut length = 0;
+            let mut length = 0usize;
             for word in &found {
-                length += word.len();
+                length = length.saturating_add(word.len());
             }
             assert_eq!(rt; length, bytes);
         }
