@@ -173,29 +173,6 @@ fn prints_in_blocks(rt: HostRuntime) -> Result<(), Fail> {
     Ok(())
 }
 
-fn marks(alloc: Global, signs: &[(u32, Dir)]) -> Result<Item, AllocError> {
-    let marks = signs
-        .iter()
-        .map(|sign| Mark {
-            sym: Sym(sign.0),
-            dir: sign.1,
-        })
-        .collect(alloc)?;
-    Ok(Item::Burst(Items::from_vec(marks)))
-}
-
-fn seq(alloc: Global, item: Item) -> Result<Seq, AllocError> {
-    let items = vec![in alloc; item]?;
-    Ok(Seq {
-        items: Items::from_vec(items),
-    })
-}
-
-fn choice(alloc: Global, first: Item, second: Item) -> Result<Item, AllocError> {
-    let seqs = vec![in alloc; seq(alloc, first)?, seq(alloc, second)?]?;
-    Ok(Item::Alt(Items::from_vec(seqs)))
-}
-
 fn command(alloc: Global) -> Result<Command, AllocError> {
     let mut names = NameSet::new(alloc);
     names.insert(Name::new(alloc, b"a7")?)?;
@@ -229,43 +206,5 @@ fn writes_a_command(rt: HostRuntime) -> Result<(), Fail> {
     let mut sink = MemSink::new(rt.alloc(), 20, Vec::new(rt.alloc()))?;
     assert!(rt; put_command(&command, &mut sink).is_ok());
     assert_eq!(rt; sink.bytes(), b"pref*[a7?]".as_slice());
-    Ok(())
-}
-
-#[test]
-fn writes_bodies(rt: HostRuntime) -> Result<(), Fail> {
-    let mut names = NameSet::new(rt.alloc());
-    for text in ["a", "b", "c"] {
-        names.insert(Name::new(rt.alloc(), text.as_bytes())?)?;
-    }
-    let one = marks(rt.alloc(), &[(0, Dir::Input)])?;
-    let two = marks(rt.alloc(), &[(1, Dir::Output), (2, Dir::Output)])?;
-    let lone = seq(rt.alloc(), choice(rt.alloc(), one, two)?)?;
-    let three = marks(rt.alloc(), &[(2, Dir::Input)])?;
-    let four = marks(rt.alloc(), &[(0, Dir::Output)])?;
-    let lead = seq(rt.alloc(), choice(rt.alloc(), three, four)?)?;
-    let burst = marks(rt.alloc(), &[(0, Dir::Input), (1, Dir::Input)])?;
-    let last = marks(rt.alloc(), &[(2, Dir::Output)])?;
-    let body = Seq {
-        items: Items::from_vec(vec![in rt.alloc(); burst, last]?),
-    };
-    let procs = vec![in rt.alloc();
-        Proc {
-            lead: None,
-            body: Some(lone)
-        },
-        Proc {
-            lead: Some(lead),
-            body: Some(body)
-        },
-    ]?;
-    let mut sink = MemSink::new(rt.alloc(), 80, Vec::new(rt.alloc()))?;
-    let command = Command {
-        names,
-        procs: Items::from_vec(procs),
-    };
-    assert!(rt; put_command(&command, &mut sink).is_ok());
-    let text = "pref*[a?|(b!||c!)]||pref[(c?|a!);*[(a?||b?);c!]]";
-    assert_eq!(rt; sink.bytes(), text.as_bytes());
     Ok(())
 }
