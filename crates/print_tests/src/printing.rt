@@ -1,4 +1,4 @@
-//! Shelves, sinks, printers and the texts of networks.
+//! Shelves, sinks, printers and the texts of commands.
 use cmd_text::{put_command, write_command};
 use cmd_tree::{Command, Dir, Item, Mark, Name, NameSet, Proc, Seq, Sym};
 use di_io::{HostShelf, HostSink, LoadFault, MemShelf, MemSink, Printer, Shelf, Sink};
