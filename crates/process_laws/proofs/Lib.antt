@@ -1,0 +1,11 @@
+pub mod Fair
+pub mod Shapes
+pub mod PhasedTraces
+pub mod GrantMachine
+pub mod GrantSteps
+pub mod GrantTraces
+pub mod PlainGrants
+pub mod ReleaseGrants
+pub mod GrantPhases
+pub mod RoundsFair
+pub mod Weaves

@@ -1,0 +1,4 @@
+mod Joined
+pub mod Walking
+pub mod FirstBursts
+pub mod Tables
