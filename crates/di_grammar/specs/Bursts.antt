@@ -1,59 +1,43 @@
--- The bursts of a tree with their places, its first bursts and its last bursts. Places are counted by marks.
-use Rattle.std.specs.Prelude.{ℕ, ◌+◌, List, [], ◌∷◌, ◌++◌}
+-- Words on bursts that several rules share.
+use Rattle.std.specs.Prelude.{◌≡◌, ◌↔◌, ◌+◌, ℕ, IsTrue, List, [], ◌∷◌, ◌++◌, length}
 use Rattle.cmd_tree.specs.declared.tree.Dir.{Dir}
-use Rattle.cmd_tree.specs.declared.tree.Dir.TheVariants.{Input}
+use Rattle.cmd_tree.specs.declared.tree.Dir.TheVariants.{Input, Output}
 use Rattle.cmd_tree.specs.declared.tree.Mark.{Mark}
-use Rattle.cmd_tree.specs.Tree.{TItem, TSeq, TSeqs, TBurst, TAlt, Stop, Or, Done, Then, places_of, places_in}
+use Rattle.cmd_tree.specs.Lists.{is_in}
+use Rattle.cmd_tree.specs.Meaning.{symbols}
+use Rattle.tree_walk.specs.Bursts.{Burst, dir_of}
 
--- a burst, at the place of its first mark
-pub record Burst : Type 0 where
-  pub place : ℕ
-  pub marks : List Mark
+-- the symbol a stands in the burst
+abbrev pub Has : Burst → ℕ → Type 0
+Has b a = IsTrue (is_in a (symbols b.marks))
 
--- the direction of a burst is that of its first mark
-abbrev pub dir_of : List Mark → Dir
-dir_of [] = Input
-dir_of (m ∷ ms) = m.dir
+-- both bursts have the same symbols
+abbrev pub SameSet : Burst → Burst → Type 0
+SameSet b c = (a : ℕ) → Has b a ↔ Has c a
 
--- all bursts of a tree that begins at place k, in text order
-abbrev mutual
-  pub bursts_of : ℕ → TSeq → List Burst
-  bursts_of k Done = []
-  bursts_of k (Then i s) = bursts_in k i ++ bursts_of (k + places_in i) s
+-- no symbol stands in both
+abbrev pub Disjoint : Burst → Burst → Type 0
+Disjoint b c = (a : ℕ) → Has b a → Has c a → ⊥
 
-  pub bursts_in : ℕ → TItem → List Burst
-  bursts_in k (TBurst ms) = record { place = k; marks = ms } ∷ []
-  bursts_in k (TAlt ss) = bursts_among k ss
+-- a symbol stands in both, and they are not the same set
+pub record Overlap (b c : Burst) : Type 0 where
+  pub symbol : ℕ
+  pub first : Has b symbol
+  pub second : Has c symbol
+  pub differ : SameSet b c → ⊥
 
-  pub bursts_among : ℕ → TSeqs → List Burst
-  bursts_among k Stop = []
-  bursts_among k (Or s ss) = bursts_of k s ++ bursts_among (k + places_of s) ss
+-- the mark stands in the burst at this place
+pub record Stands (b : Burst) (place : ℕ) (m : Mark) : Type 0 where
+  pub before : List Mark
+  pub after : List Mark
+  pub are : b.marks ≡ before ++ m ∷ after
+  pub at : place ≡ b.place + length before
 
--- the first bursts: of a sequence those of its first item, of a choice those of all its alternatives
-abbrev mutual
-  pub firsts_of : ℕ → TSeq → List Burst
-  firsts_of k Done = []
-  firsts_of k (Then i s) = firsts_in k i
+-- the input bursts among some bursts
+abbrev pub if_input : Dir → Burst → List Burst → List Burst
+if_input Input b bs = b ∷ bs
+if_input Output b bs = bs
 
-  pub firsts_in : ℕ → TItem → List Burst
-  firsts_in k (TBurst ms) = record { place = k; marks = ms } ∷ []
-  firsts_in k (TAlt ss) = firsts_among k ss
-
-  pub firsts_among : ℕ → TSeqs → List Burst
-  firsts_among k Stop = []
-  firsts_among k (Or s ss) = firsts_of k s ++ firsts_among (k + places_of s) ss
-
--- the last bursts: of a sequence those of its last item, of a choice those of all its alternatives
-abbrev mutual
-  pub lasts_of : ℕ → TSeq → List Burst
-  lasts_of k Done = []
-  lasts_of k (Then i Done) = lasts_in k i
-  lasts_of k (Then i (Then j s)) = lasts_of (k + places_in i) (Then j s)
-
-  pub lasts_in : ℕ → TItem → List Burst
-  lasts_in k (TBurst ms) = record { place = k; marks = ms } ∷ []
-  lasts_in k (TAlt ss) = lasts_among k ss
-
-  pub lasts_among : ℕ → TSeqs → List Burst
-  lasts_among k Stop = []
-  lasts_among k (Or s ss) = lasts_of k s ++ lasts_among (k + places_of s) ss
+abbrev pub inputs : List Burst → List Burst
+inputs [] = []
+inputs (b ∷ bs) = if_input (dir_of b.marks) b (inputs bs)

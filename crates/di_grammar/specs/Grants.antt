@@ -1,43 +1,34 @@
--- What a grant gives by its form: the marks of its alternatives, with their places.
-use Rattle.std.specs.Prelude.{ℕ, ◌+◌, List, [], ◌∷◌, ◌++◌, Option, Some, None}
-use Rattle.cmd_tree.specs.declared.tree.Mark.{Mark}
-use Rattle.cmd_tree.specs.Tree.{TSeq, places_of, places_among}
-use Rattle.cmd_tree.specs.View.{seqs_of}
-use Rattle.di_grammar.specs.declared.grant.Form.{Form}
-use Rattle.di_grammar.specs.declared.grant.Form.TheVariants.{Plain, Release}
-use Rattle.di_grammar.specs.declared.grant.Grant.{Grant}
-use Rattle.di_grammar.specs.Bursts.{Burst}
-use Rattle.di_grammar.specs.Rules.{plain_mark, release_mark}
+-- The processes that grant: pref*[n?;(p1!|..|pk!)] and pref*[p1!;d1?|..|pk!;dk?], with two symbols p or more.
+use Rattle.std.specs.Prelude.{◌≡◌, ◌⊎◌, ℕ, ◌+◌, ◌<◌, List, [], ◌∷◌, length}
+use Rattle.cmd_tree.specs.declared.tree.Proc.{Proc}
+use Rattle.process_laws.specs.GrantForms.{Giving, plain, release, granted_of}
 
--- the mark that an alternative gives
-abbrev pub mark_by : Form → TSeq → Option Mark
-mark_by Plain s = plain_mark s
-mark_by Release s = release_mark s
+-- a symbol that is granted, and its place in the process
+pub record Gift : Type 0 where
+  pub place : ℕ
+  pub symbol : ℕ
 
--- the place of the first mark that is given: `n?` stands before it, or nothing
-abbrev pub first_place : Form → ℕ
-first_place Plain = 2
-first_place Release = 1
+-- these symbols, the first at place k, and then one each `step` places
+abbrev pub gifts_from : ℕ → ℕ → List ℕ → List Gift
+gifts_from k step [] = []
+gifts_from k step (a ∷ rest) = record { place = k; symbol = a } ∷ gifts_from (k + step) step rest
 
--- how many places an alternative has that gives a mark
-abbrev pub step_of : Form → ℕ
-step_of Plain = 1
-step_of Release = 2
+pub record GrantsPlainly (p : Proc) (gs : List Gift) : Type 0 where
+  pub asks : ℕ
+  pub symbols : List ℕ
+  pub many : 1 < length symbols
+  pub is : p ≡ plain asks symbols
+  pub gives : gs ≡ gifts_from 2 1 symbols
 
-abbrev pub burst_if : ℕ → Option Mark → List Burst
-burst_if k None = []
-burst_if k (Some m) = record { place = k; marks = m ∷ [] } ∷ []
+pub record GrantsWithRelease (p : Proc) (gs : List Gift) : Type 0 where
+  pub givings : List Giving
+  pub many : 1 < length givings
+  pub is : p ≡ release givings
+  pub gives : gs ≡ gifts_from 1 2 (granted_of givings)
 
--- the marks that these alternatives give, of which the first begins at place k
-abbrev pub given : Form → ℕ → List TSeq → List Burst
-given form k [] = []
-given form k (s ∷ ss) = burst_if k (mark_by form s) ++ given form (k + places_of s) ss
+-- the process is a grant, and gives these symbols
+abbrev pub Grants : Proc → List Gift → Type 0
+Grants p gs = GrantsPlainly p gs ⊎ GrantsWithRelease p gs
 
-abbrev pub given_by : Option Grant → List Burst
-given_by None = []
-given_by (Some g) = given g.form (first_place g.form) g.choice.now
-
--- the place after the last alternative
-abbrev pub place_after : Option Grant → ℕ
-place_after None = 0
-place_after (Some g) = first_place g.form + places_among (seqs_of g.choice.now)
+abbrev pub IsGrant : Proc → Type 0
+IsGrant p = (gs : List Gift) × Grants p gs

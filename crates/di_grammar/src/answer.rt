@@ -1,17 +1,28 @@
-ghost use Rattle.std.specs.Prelude.{◌≡◌, ◌+◌, ◌<◌, ◌^◌, length, None};
-ghost use Rattle.cmd_tree.specs.Limits.{places_of_proc, places_of_all};
-ghost use Rattle.di_grammar.specs.Least.{least};
-ghost use Rattle.di_grammar.specs.Rules.{faults_of, number_of, other_process, answer_of, broken_in, broken, Admitted};
+//! Whether a command is admitted.
+ghost use Rattle.std.specs.Prelude.{◌≡◌, ◌↔◌, ℕ, ◌+◌, ◌<◌, ◌≤◌, ◌^◌, IsTrue, List, length, None, slice_index_or, false};
+ghost use Rattle.cmd_tree.specs.declared.limits.TheConstants.{MAX_PLACES, MAX_PROCESSES, MAX_SYMBOLS};
+ghost use Rattle.cmd_tree.specs.declared.tree.Proc.{Proc};
+ghost use Rattle.cmd_tree.specs.Limits.{IsProc, places_of_all, places_of_proc, marks_of_all, marks_of_proc};
+ghost use Rattle.di_grammar.specs.Admitted.{Admitted, Answer, Breaks, BreaksLocally, InProcess, number_of};
+ghost use Rattle.di_grammar.specs.Breaches.{FirstOf};
+ghost use Rattle.di_grammar.specs.Clashes.{First};
+ghost use Rattle.di_grammar.specs.EvenBursts.{KeepsBursts};
+ghost use Rattle.di_grammar.specs.Grants.{IsGrant};
+ghost use Rattle.di_grammar.specs.Mirror.Answering.{AreFew, GrantsTold, EarlierKept};
+ghost use Rattle.di_grammar.specs.Mirror.Laid.{AreSmall};
 
-use crate::alternate::{second_rule, third_rule};
-use crate::choices::fourth_rule;
-use crate::fault::Fault;
-use crate::granting::{eighth_rule, ninth_rule};
-use crate::overlaps::sixth_rule;
-use crate::turned::seventh_rule;
-use crate::twins::fifth_rule;
-use crate::uneven::first_rule;
-use cmd_tree::{Command, Proc};
+use crate::alternation::{one_way_neighbours, one_way_rounds};
+use crate::breach::Breach;
+use crate::choices::broken_choices;
+use crate::clash::Clash;
+use crate::directions::turned;
+use crate::even_bursts::uneven_bursts;
+use crate::granted::given_twice;
+use crate::grants::is_grant;
+use crate::homes::unhoused;
+use crate::overlaps::overlapping_bursts;
+use crate::twins::twins;
+use cmd_tree::{Command, MAX_PROCESSES, Proc};
 
 /// The least broken rule of a command, with the least process and place that break it, and the
 /// other place of the rule. Processes and places are counted from 1.
@@ -69,91 +80,101 @@ impl Rule {
     }
 }
 
-/// Whether a command is admitted: the least rule that it breaks, in the least process and there at
-/// the least place, and `None` where it breaks none.
+/// Whether a command is admitted: `None` where it is, else the least rule that it breaks, in the least
+/// process and there at the least place.
 ///
-/// It takes no memory. Its time grows at most with the square of the places of the command: about a
-/// second for 8,192 places, the most that a command has.
+/// It takes no memory. Its time grows with the places of the command, but where a choice has first bursts that
+/// share a symbol, which is refused in any case.
 pub fn check(command: &Command) -> Option<Broken>
-    ensures least { result ≡ broken command.now.procs }
-    ensures none { result ≡ None → Admitted command.now.procs }
-    ensures admitted { Admitted command.now.procs → result ≡ None }
+    ensures answer { Answer command.now.procs result }
+    ensures none { result ≡ None ↔ Admitted command.now.procs }
 {
     first_broken(command.procs.as_slice())
 }
 
-/// Of processes that are few enough, what `check` answers of a command.
+/// Of processes that keep the limits, what `check` answers of a command.
 pub fn first_broken(procs: &[Proc]) -> Option<Broken>
-    requires count { length procs.now < 2 ^ 32 }
-    requires places { places_of_all procs.now + 1 < 2 ^ 32 }
-    ensures { result ≡ broken procs.now }
+    requires { AreFew procs.now }
+    ensures { Answer procs.now result }
 {
+    let grants = grants_of(procs);
     for rule in RULES {
-        let broken = broken_in(rule, procs);
-        if broken.is_some() {
-            return broken;
+        if let Some(breach) = first_breach(rule, procs, &grants) {
+            return Some(Broken {
+                rule: rule.number(),
+                process: breach.process,
+                place: breach.place,
+                other_process: breach.other_process,
+                other: breach.other,
+            });
         }
     }
     None
 }
 
-fn broken_in(rule: Rule, procs: &[Proc]) -> Option<Broken>
-    requires count { length procs.now < 2 ^ 32 }
-    requires places { places_of_all procs.now + 1 < 2 ^ 32 }
-    ensures { result ≡ broken_in (number_of rule) (faults_of rule procs.now) 1 procs.now }
+// Which processes are grants.
+fn grants_of(procs: &[Proc]) -> [bool; MAX_PROCESSES]
+    requires { AreFew procs.now }
+    ensures { GrantsTold result procs.now }
 {
+    let mut grants = [false; MAX_PROCESSES];
     for (index, process) in procs.iter().enumerate() {
-        let number = index as u32 + 1;
-        let fault = fault_of(rule, procs, number, process);
-        let broken = answer_of(rule, number, fault);
-        if broken.is_some() {
-            return broken;
-        }
+        grants[index] = is_grant(process);
     }
-    None
+    grants
 }
 
-fn fault_of(rule: Rule, procs: &[Proc], number: u32, process: &Proc) -> Option<Fault>
-    requires count { length procs.now < 2 ^ 32 }
-    requires places { places_of_all procs.now + 1 < 2 ^ 32 }
-    requires own { places_of_proc process.now + 1 < 2 ^ 32 }
-    ensures { result ≡ least (faults_of rule procs.now number process.now) }
+fn first_breach(rule: Rule, procs: &[Proc], grants: &[bool; MAX_PROCESSES]) -> Option<Breach>
+    requires few { AreFew procs.now }
+    requires grants { GrantsTold grants.now procs.now }
+    requires kept { EarlierKept rule procs.now }
+    ensures { FirstOf (Breaks rule procs.now) result }
 {
     match rule {
-        Rule::Bursts => first_rule(process),
-        Rule::Neighbours => second_rule(process),
-        Rule::Rounds => third_rule(process),
-        Rule::Choices => fourth_rule(process),
-        Rule::Twins => fifth_rule(process),
-        Rule::Overlaps => sixth_rule(process),
-        Rule::Directions => seventh_rule(procs, process),
-        Rule::Granted => eighth_rule(process),
-        Rule::Homes => ninth_rule(procs, number, process),
+        Rule::Directions => turned(procs),
+        Rule::Homes => unhoused(procs),
+        _ => first_in_process(rule, procs, grants),
     }
 }
 
-fn answer_of(rule: Rule, number: u32, fault: Option<Fault>) -> Option<Broken>
-    ensures { result ≡ answer_of (number_of rule) number fault }
+// Of a rule that speaks of single processes.
+fn first_in_process(rule: Rule, procs: &[Proc], grants: &[bool; MAX_PROCESSES]) -> Option<Breach>
+    requires few { AreFew procs.now }
+    requires grants { GrantsTold grants.now procs.now }
+    requires kept { EarlierKept rule procs.now }
+    ensures { FirstOf (InProcess (BreaksLocally rule) procs.now) result }
 {
-    match fault {
-        None => None,
-        Some(fault) => Some(Broken {
-            rule: rule.number(),
-            process: number,
-            place: fault.place,
-            other_process: other_process(number, fault),
-            other: fault.other,
-        }),
+    for (index, process) in procs.iter().enumerate() {
+        if let Some(clash) = first_clash(rule, process, grants[index]) {
+            let number = index as u32 + 1;
+            return Some(Breach {
+                process: number,
+                place: clash.place,
+                case: clash.case,
+                other_process: number,
+                other: clash.other,
+            });
+        }
     }
+    None
 }
 
-// A fault of number 0 is against the process itself.
-fn other_process(number: u32, fault: Fault) -> u32
-    ensures { result ≡ other_process number fault }
+fn first_clash(rule: Rule, process: &Proc, grant: bool) -> Option<Clash>
+    requires few { places_of_proc process.now + 1 < 2 ^ 32 }
+    requires small { AreSmall (marks_of_proc process.now) }
+    requires formed { IsProc process.now }
+    requires told { IsTrue grant ↔ IsGrant process.now }
+    requires even { 1 < number_of rule → KeepsBursts process.now }
+    ensures { First (BreaksLocally rule process.now) result }
 {
-    if fault.other_process == 0 {
-        number
-    } else {
-        fault.other_process
+    match rule {
+        Rule::Bursts => uneven_bursts(process),
+        Rule::Neighbours => one_way_neighbours(process),
+        Rule::Rounds => one_way_rounds(process),
+        Rule::Choices => broken_choices(process, grant),
+        Rule::Twins => twins(process, grant),
+        Rule::Overlaps => overlapping_bursts(process, grant),
+        Rule::Granted => given_twice(process),
+        Rule::Directions | Rule::Homes => None,
     }
 }

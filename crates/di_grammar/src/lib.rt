@@ -1,24 +1,24 @@
 //! The grammar of delay-insensitive commands: which commands are admitted, and where a command
-//! breaks a rule. `specs/Rules.antt` has the rules.
+//! breaks a rule. `specs/` has the rules, a file for each.
 #![tactic(auto)]
 
-mod alternate;
+mod alternation;
 mod answer;
+mod breach;
 mod choices;
-mod ends;
-mod fault;
-mod grant;
-mod granting;
+mod clash;
+mod directions;
+mod even_bursts;
+mod granted;
+mod grants;
+mod homes;
+mod laws;
 mod overlaps;
-mod places;
-mod search;
-mod sets;
+mod rule_laws;
 mod spots;
-mod turned;
+mod symbols;
 mod twins;
-mod uneven;
 
 pub use answer::{Broken, check};
-
-#[cfg(test)]
-mod tests;
+pub use laws::{grants_law, processes_law, weave_law};
+pub use rule_laws::{answers_law, rules_law};

@@ -1,155 +1,172 @@
-ghost use Rattle.std.specs.Prelude.{◌≡◌, ◌+◌, ◌<◌, ◌^◌, [], ◌∷◌, not};
-ghost use Rattle.cmd_tree.specs.Tree.{places_of, places_in};
-ghost use Rattle.cmd_tree.specs.Limits.{of_part, places_of_proc};
-ghost use Rattle.cmd_tree.specs.View.{item_of};
-ghost use Rattle.di_grammar.specs.Least.{lesser, least};
-ghost use Rattle.di_grammar.specs.Bursts.{dir_of, bursts_of, bursts_in};
-ghost use Rattle.di_grammar.specs.Ends.{is_output};
-ghost use Rattle.di_grammar.specs.Rules.{overlaps, overlapping, bursts_of_proc, rule_6};
+//! The sixth rule: two input bursts of one process are equal or disjoint as sets.
+ghost use Rattle.std.specs.Prelude.{◌≡◌, ◌↔◌, ℕ, ◌+◌, ◌<◌, ◌^◌, IsTrue, List, [], ◌∷◌, ◌++◌, length, min};
+ghost use Rattle.cmd_tree.specs.declared.limits.TheConstants.{MAX_SYMBOLS};
+ghost use Rattle.cmd_tree.specs.Limits.{places_of_proc, marks_of_proc};
+ghost use Rattle.tree_walk.specs.Bursts.{Burst};
+ghost use Rattle.di_grammar.specs.Lists.{Each, EachTwo};
+ghost use Rattle.di_grammar.specs.Clashes.{First};
+ghost use Rattle.di_grammar.specs.Bursts.{inputs};
+ghost use Rattle.di_grammar.specs.Grants.{IsGrant};
+ghost use Rattle.di_grammar.specs.EvenBursts.{KeepsBursts};
+ghost use Rattle.di_grammar.specs.Overlaps.{EqualOrDisjoint, BreaksOverlaps};
+ghost use Rattle.di_grammar.specs.Mirror.Laid.{AreSmall, IsSmall, Laid};
+ghost use Rattle.tree_walk.specs.Mirror.Table.{entry_of};
+ghost use Rattle.di_grammar.specs.Mirror.Uneven.{burst_of};
+ghost use Rattle.di_grammar.specs.Mirror.Overlapping.{Distinct, StoodAll, Sound, Met, Lowest, StoodAt, Enters, KnowsOverlaps};
 
-use crate::fault::{Fault, fault_at, fault_if};
-use crate::grant::is_grant;
-use crate::places::{dir_of, same_dir};
-use crate::search::Search;
-use crate::sets::overlap;
-use cmd_tree::{Dir, Item, Mark, Proc, Seq};
+use crate::clash::Clash;
+use cmd_tree::{Dir, Mark, Proc, Seq};
+use tree_walk::{Edges, Table, Visit, dir_of, walk};
 
-/// The least fault of a process by the sixth rule: two input bursts are equal or disjoint as sets.
-pub fn sixth_rule(process: &Proc) -> Option<Fault>
-    requires { places_of_proc process.now + 1 < 2 ^ 32 }
-    ensures { result ≡ least (rule_6 process.now) }
+/// The first place where a process that keeps the first rule breaks the sixth. `grant` says whether it is a
+/// grant.
+pub fn overlapping_bursts(process: &Proc, grant: bool) -> Option<Clash>
+    requires few { places_of_proc process.now + 1 < 2 ^ 32 }
+    requires small { Each (λ m. m.sym.0 < MAX_SYMBOLS) (marks_of_proc process.now) }
+    requires even { KeepsBursts process.now }
+    requires told { IsTrue grant ↔ IsGrant process.now }
+    ensures { First (BreaksOverlaps process.now) result }
 {
-    if is_grant(process) {
-        None
-    } else {
-        overlapping(process)
-    }
-}
-
-fn overlapping(process: &Proc) -> Option<Fault>
-    requires { places_of_proc process.now + 1 < 2 ^ 32 }
-    ensures { result ≡ least (overlapping (bursts_of_proc process.now) (bursts_of_proc process.now)) }
-{
-    let lead = overlapping_part(&process.lead, Search::at(1), process);
-    overlapping_part(&process.body, lead, process).found
-}
-
-fn overlapping_part(part: &Option<Seq>, from: Search, process: &Proc) -> Search
-    requires fits { from.place + of_part 0 places_of part.now < 2 ^ 32 }
-    requires all { places_of_proc process.now + 1 < 2 ^ 32 }
-    ensures place { result.place ≡ from.place + of_part 0 places_of part.now }
-    ensures found { result.found ≡ lesser from.found (least (overlapping (of_part [] (bursts_of from.place) part.now) (bursts_of_proc process.now))) }
-{
-    match part {
-        None => from,
-        Some(seq) => overlapping_seq(seq, from, process),
-    }
-}
-
-// Each burst of a tree against the earlier ones of its process.
-#[cycle(overlapping)]
-fn overlapping_seq(seq: &Seq, from: Search, process: &Proc) -> Search
-    requires fits { from.place + places_of seq.now < 2 ^ 32 }
-    requires all { places_of_proc process.now + 1 < 2 ^ 32 }
-    ensures place { result.place ≡ from.place + places_of seq.now }
-    ensures found { result.found ≡ lesser from.found (least (overlapping (bursts_of from.place seq.now) (bursts_of_proc process.now))) }
-{
-    let mut search = from;
-    for item in seq.items.as_slice() {
-        search = overlapping_item(item, search, process);
-    }
-    search
-}
-
-#[cycle(overlapping)]
-fn overlapping_item(item: &Item, from: Search, process: &Proc) -> Search
-    requires fits { from.place + places_in (item_of item.now) < 2 ^ 32 }
-    requires all { places_of_proc process.now + 1 < 2 ^ 32 }
-    ensures place { result.place ≡ from.place + places_in (item_of item.now) }
-    ensures found { result.found ≡ lesser from.found (least (overlapping (bursts_in from.place (item_of item.now)) (bursts_of_proc process.now))) }
-{
-    match item {
-        Item::Burst(marks) => {
-            let marks = marks.as_slice();
-            from.meet(overlaps(from.place, marks, process)).pass(marks)
-        }
-        Item::Alt(seqs) => {
-            let mut search = from;
-            for seq in seqs.as_slice() {
-                search = overlapping_seq(seq, search, process);
-            }
-            search
-        }
-    }
-}
-
-// A burst at a place of a process against the earlier ones of the process.
-fn overlaps(place: u32, marks: &[Mark], process: &Proc) -> Option<Fault>
-    requires { places_of_proc process.now + 1 < 2 ^ 32 }
-    ensures { result ≡ least (overlaps (record { place = place; marks = marks.now }) (bursts_of_proc process.now)) }
-{
-    if !takes(marks) {
+    if grant {
         return None;
     }
-    let lead = overlaps_part(&process.lead, Search::at(1), place, marks);
-    overlaps_part(&process.body, lead, place, marks).found
+    let mut bursts = InputBursts {
+        firsts: Firsts {
+            places: Table::none(),
+            sizes: Table::none(),
+        },
+        found: None,
+    };
+    walk(1, process, &mut bursts);
+    bursts.found
 }
 
-fn overlaps_part(part: &Option<Seq>, from: Search, place: u32, marks: &[Mark]) -> Search
-    requires { from.place + of_part 0 places_of part.now < 2 ^ 32 }
-    ensures place { result.place ≡ from.place + of_part 0 places_of part.now }
-    ensures found { result.found ≡ lesser from.found (least (overlaps (record { place = place; marks = marks.now }) (of_part [] (bursts_of from.place) part.now))) }
-{
-    match part {
-        None => from,
-        Some(seq) => overlaps_seq(seq, from, place, marks),
-    }
+// Of each symbol the place and the size of the first input burst that has it.
+#[derive(Drop)]
+struct Firsts {
+    places: Table,
+    sizes: Table,
 }
 
-#[cycle(overlaps)]
-fn overlaps_seq(seq: &Seq, from: Search, place: u32, marks: &[Mark]) -> Search
-    requires { from.place + places_of seq.now < 2 ^ 32 }
-    ensures place { result.place ≡ from.place + places_of seq.now }
-    ensures found { result.found ≡ lesser from.found (least (overlaps (record { place = place; marks = marks.now }) (bursts_of from.place seq.now))) }
-{
-    let mut search = from;
-    for item in seq.items.as_slice() {
-        search = overlaps_item(item, search, place, marks);
-    }
-    search
+#[derive(Drop)]
+struct InputBursts {
+    firsts: Firsts,
+    found: Option<Clash>,
 }
 
-#[cycle(overlaps)]
-fn overlaps_item(item: &Item, from: Search, place: u32, marks: &[Mark]) -> Search
-    requires { from.place + places_in (item_of item.now) < 2 ^ 32 }
-    ensures place { result.place ≡ from.place + places_in (item_of item.now) }
-    ensures found { result.found ≡ lesser from.found (least (overlaps (record { place = place; marks = marks.now }) (bursts_in from.place (item_of item.now)))) }
-{
-    match item {
-        Item::Burst(others) => {
-            let others = others.as_slice();
-            from.meet(overlap_fault(place, marks, from.place, others))
-                .pass(others)
+impl Visit for InputBursts {
+    ghost knows = { λ v ps w. (end : ℕ) → Laid 1 w.bursts end → Each IsSmall w.bursts → Each Distinct w.bursts
+        → KnowsOverlaps (inputs w.bursts) (entry_of v.firsts.places) (entry_of v.firsts.sizes) v.found };
+
+    fn burst(&mut self, _number: u32, place: u32, marks: &[Mark]) {
+        match dir_of(marks) {
+            Dir::Input => self.meet(place, marks),
+            Dir::Output => {}
         }
-        Item::Alt(seqs) => {
-            let mut search = from;
-            for seq in seqs.as_slice() {
-                search = overlaps_seq(seq, search, place, marks);
+    }
+
+    fn neighbours(&mut self, _number: u32, _edges: Edges) {}
+
+    fn choice(&mut self, _number: u32, _place: u32, _seqs: &[Seq], _edges: Edges) {}
+}
+
+impl InputBursts {
+    // One more input burst.
+    fn meet(&mut self, place: u32, marks: &[Mark])
+        requires { place + length marks.now < 2 ^ 32 }
+        ensures { (bs : List Burst) → Sound bs (burst_of place marks.now)
+            → KnowsOverlaps bs (entry_of self.old.firsts.places) (entry_of self.old.firsts.sizes)
+            self.old.found
+            → KnowsOverlaps (bs ++ burst_of place marks.now ∷ [])
+            (entry_of self.new.firsts.places) (entry_of self.new.firsts.sizes) self.new.found }
+    {
+        if self.found.is_some() {
+            return;
+        }
+        self.found = self.firsts.meet(place, marks);
+    }
+}
+
+impl Firsts {
+    // One more input burst, where no two so far overlap.
+    fn meet(&mut self, place: u32, marks: &[Mark]) -> Option<Clash>
+        requires { place + length marks.now < 2 ^ 32 }
+        ensures { (bs : List Burst) → Sound bs (burst_of place marks.now) → EachTwo EqualOrDisjoint bs
+            → StoodAll bs (entry_of self.old.places) (entry_of self.old.sizes)
+            → Met bs (burst_of place marks.now) (entry_of self.new.places) (entry_of self.new.sizes) result }
+    {
+        let low = self.lowest(marks);
+        if low == 0 {
+            self.enter(place, marks);
+            return None;
+        }
+        if self.stood_at(low, marks) {
+            return None;
+        }
+        Some(Clash {
+            place,
+            case: 0,
+            other: low,
+        })
+    }
+
+    // The least place of a symbol of these; 0 where none has a place.
+    fn lowest(&self, marks: &[Mark]) -> u32
+        ensures { Lowest (entry_of self.now.places) marks.now result }
+    {
+        let mut low = 0;
+        for mark in marks {
+            low = lower(low, self.places.of(mark.sym));
+        }
+        low
+    }
+
+    // Whether each of the symbols stood first in the burst at this place, which has as many marks.
+    fn stood_at(&self, place: u32, marks: &[Mark]) -> bool
+        ensures { IsTrue result
+            ↔ Each (StoodAt (entry_of self.now.places) (entry_of self.now.sizes) place (length marks.now)) marks.now }
+    {
+        for mark in marks {
+            if !self.mark_stood_at(place, marks.len(), *mark) {
+                return false;
             }
-            search
+        }
+        true
+    }
+
+    fn mark_stood_at(&self, place: u32, size: usize, mark: Mark) -> bool
+        ensures { IsTrue result
+            ↔ StoodAt (entry_of self.now.places) (entry_of self.now.sizes) place size mark }
+    {
+        self.places.of(mark.sym) == place && self.sizes.of(mark.sym) as usize == size
+    }
+
+    // The burst is the first that has these symbols.
+    fn enter(&mut self, place: u32, marks: &[Mark])
+        requires { place + length marks.now < 2 ^ 32 }
+        ensures places { AreSmall marks.now
+            → Enters (entry_of self.old.places) (entry_of self.new.places) place marks.now }
+        ensures sizes { AreSmall marks.now
+            → Enters (entry_of self.old.sizes) (entry_of self.new.sizes) (length marks.now) marks.now }
+    {
+        for mark in marks {
+            self.places.put(mark.sym, place);
+            self.sizes.put(mark.sym, marks.len() as u32);
         }
     }
 }
 
-fn overlap_fault(place: u32, marks: &[Mark], other: u32, others: &[Mark]) -> Option<Fault>
-    ensures { result ≡ least (overlaps (record { place = place; marks = marks.now }) (record { place = other; marks = others.now } ∷ [])) }
+// The lesser of two places, where 0 is none.
+fn lower(low: u32, place: u32) -> u32
+    ensures none { place ≡ 0 → result ≡ low }
+    ensures first { low ≡ 0 → result ≡ place }
+    ensures less { 0 < low → 0 < place → result ≡ min low place }
 {
-    let test = other < place && takes(marks) && takes(others) && overlap(marks, others);
-    fault_if(test, fault_at(0, place, other))
-}
-
-fn takes(marks: &[Mark]) -> bool
-    ensures { result ≡ not (is_output (dir_of marks.now)) }
-{
-    same_dir(Dir::Input, dir_of(marks))
+    if place == 0 {
+        return low;
+    }
+    if low == 0 {
+        return place;
+    }
+    low.min(place)
 }

@@ -1,180 +1,155 @@
-ghost use Rattle.std.specs.Prelude.{◌≡◌, ◌+◌, ◌<◌, ◌^◌, ◌++◌, [], ◌∷◌};
-ghost use Rattle.cmd_tree.specs.Tree.{places_of, places_in, places_among};
-ghost use Rattle.cmd_tree.specs.Limits.{of_part, places_of_proc};
-ghost use Rattle.cmd_tree.specs.View.{item_of, seqs_of};
-ghost use Rattle.di_grammar.specs.Least.{lesser, least};
-ghost use Rattle.di_grammar.specs.Bursts.{firsts_of, firsts_in, firsts_among};
-ghost use Rattle.di_grammar.specs.Rules.{twins, twins_of, twins_among, equal_choices, equal_choices_in, body_place, rule_5};
+//! The fifth rule: the first bursts of different alternatives of one choice differ as sets.
+ghost use Rattle.std.specs.Prelude.{◌≡◌, ◌↔◌, ◌+◌, ◌<◌, ◌^◌, List, [], ◌∷◌, ◌++◌, IsTrue};
+ghost use Rattle.cmd_tree.specs.declared.tree.Mark.{Mark};
+ghost use Rattle.cmd_tree.specs.Limits.{places_of_proc, IsProc};
+ghost use Rattle.tree_walk.specs.Bursts.{Burst};
+ghost use Rattle.di_grammar.specs.Clashes.{First};
+ghost use Rattle.di_grammar.specs.Grants.{IsGrant};
+ghost use Rattle.di_grammar.specs.Lists.{Each};
+ghost use Rattle.di_grammar.specs.Twins.{BreaksTwins};
+ghost use Rattle.di_grammar.specs.Mirror.Stops.{Among};
+ghost use Rattle.tree_walk.specs.Mirror.Table.{entry_of};
+ghost use Rattle.di_grammar.specs.Mirror.Twins.{Climbs, IsClimbing, HasTwins, TwinsIn, Against, EqualAt, Nearest, AreEntered, Told, firsts, burst_at};
 
-use crate::fault::{Fault, fault_at, fault_if};
-use crate::grant::is_grant;
-use crate::search::Search;
-use crate::sets::same_set;
-use cmd_tree::{Item, Mark, Proc, Seq};
+use crate::clash::{Clash, lesser};
+use crate::symbols::{enter, has_new, same_symbols};
+use cmd_tree::{Mark, Proc, Seq};
+use tree_walk::{Choice, Edges, Table, Visit, VisitFirst, walk, walk_firsts};
 
-/// The least fault of a process by the fifth rule: the first bursts of different alternatives of
-/// one choice differ as sets.
-pub fn fifth_rule(process: &Proc) -> Option<Fault>
-    requires { places_of_proc process.now + 1 < 2 ^ 32 }
-    ensures { result ≡ least (rule_5 process.now) }
+/// The first place where two alternatives of a choice may begin with the same symbols. A grant has no such place.
+pub fn twins(process: &Proc, grant: bool) -> Option<Clash>
+    requires small { places_of_proc process.now + 1 < 2 ^ 32 }
+    requires whole { IsProc process.now }
+    requires told { IsTrue grant ↔ IsGrant process.now }
+    ensures { First (BreaksTwins process.now) result }
 {
-    if is_grant(process) {
-        None
+    if grant {
+        return None;
+    }
+    let mut choices = Choices { found: None };
+    walk(1, process, &mut choices);
+    choices.found
+}
+
+#[derive(Drop)]
+struct Choices {
+    found: Option<Clash>,
+}
+
+impl Visit for Choices {
+    ghost knows = { λ v ps w. Each IsClimbing w.choices → First (Among HasTwins w.choices) v.found };
+
+    fn burst(&mut self, _number: u32, _place: u32, _marks: &[Mark]) {}
+
+    fn neighbours(&mut self, _number: u32, _edges: Edges) {}
+
+    fn choice(&mut self, _number: u32, place: u32, seqs: &[Seq], _edges: Edges) {
+        self.found = lesser(self.found, twins_among(Choice { place, seqs }));
+    }
+}
+
+fn twins_among(choice: Choice) -> Option<Clash>
+    ensures { Climbs 0 (firsts choice.entry) → First (TwinsIn (firsts choice.entry)) result }
+{
+    let mut search = Search {
+        choice,
+        entered: Table::none(),
+        found: None,
+    };
+    walk_firsts(choice, &mut search);
+    search.found
+}
+
+// A search through the first bursts of a choice. The symbols of those that are passed are entered.
+#[derive(Drop)]
+struct Search<'a> {
+    choice: Choice<'a>,
+    entered: Table,
+    found: Option<Clash>,
+}
+
+impl VisitFirst for Search<'_> {
+    ghost Aim = { List Burst };
+
+    ghost knows = { λ all v bs. (firsts v.choice ≡ all) × AreEntered (entry_of v.entered) bs × Told all bs v.found };
+
+    fn first_burst(&mut self, place: u32, marks: &[Mark]) {
+        self.found = self.found_with(place, marks);
+        enter(marks, &mut self.entered);
+    }
+}
+
+impl Search<'_> {
+    // What is found once one more burst is passed. A burst with a new symbol equals none before it.
+    fn found_with(&self, place: u32, marks: &[Mark]) -> Option<Clash>
+        ensures { (bs : List Burst) → AreEntered (entry_of self.now.entered) bs → Told (firsts self.now.choice) bs self.now.found
+            → Told (firsts self.now.choice) (bs ++ burst_at place marks.now ∷ []) result }
+    {
+        if self.found.is_some() {
+            return self.found;
+        }
+        if has_new(marks, &self.entered) {
+            return None;
+        }
+        twin(place, marks, self.choice)
+    }
+}
+
+// A burst against the first one of the choice that has its symbols, if that is another.
+fn twin(place: u32, marks: &[Mark], choice: Choice) -> Option<Clash>
+    ensures { Climbs 0 (firsts choice.entry) → First (Against (firsts choice.entry) (burst_at place marks.now)) result }
+{
+    let mut equal = Equal { marks, place: None };
+    walk_firsts(choice, &mut equal);
+    match equal.place {
+        None => None,
+        Some(other) => twin_at(place, other),
+    }
+}
+
+fn twin_at(place: u32, other: u32) -> Option<Clash>
+    ensures { (all : List Burst) (ms : List Mark) → EqualAt ms all other → First (Against all (burst_at place ms)) result }
+{
+    if other < place {
+        Some(Clash {
+            place,
+            case: 0,
+            other,
+        })
     } else {
-        equal_choices(process)
+        None
     }
 }
 
-fn equal_choices(process: &Proc) -> Option<Fault>
-    requires { places_of_proc process.now + 1 < 2 ^ 32 }
-    ensures { result ≡ least (of_part [] (equal_choices 1) process.now.lead ++ of_part [] (equal_choices (body_place process.now)) process.now.body) }
-{
-    let lead = equal_choices_part(&process.lead, Search::at(1));
-    equal_choices_part(&process.body, lead).found
+// A search for the first burst that has the symbols of `marks`.
+#[derive(Drop)]
+struct Equal<'a> {
+    marks: &'a [Mark],
+    place: Option<u32>,
 }
 
-fn equal_choices_part(part: &Option<Seq>, from: Search) -> Search
-    requires { from.place + of_part 0 places_of part.now < 2 ^ 32 }
-    ensures place { result.place ≡ from.place + of_part 0 places_of part.now }
-    ensures found { result.found ≡ lesser from.found (least (of_part [] (equal_choices from.place) part.now)) }
-{
-    match part {
-        None => from,
-        Some(seq) => equal_choices_seq(seq, from),
+impl VisitFirst for Equal<'_> {
+    ghost Aim = { List Mark };
+
+    ghost knows = { λ ms v bs. (v.marks.now ≡ ms) × (Climbs 0 bs → Nearest ms bs v.place) };
+
+    fn first_burst(&mut self, place: u32, marks: &[Mark]) {
+        self.place = self.place_with(place, marks);
     }
 }
 
-#[cycle(equal_choices)]
-fn equal_choices_seq(seq: &Seq, from: Search) -> Search
-    requires { from.place + places_of seq.now < 2 ^ 32 }
-    ensures place { result.place ≡ from.place + places_of seq.now }
-    ensures found { result.found ≡ lesser from.found (least (equal_choices from.place seq.now)) }
-{
-    let mut search = from;
-    for item in seq.items.as_slice() {
-        search = equal_choices_item(item, search);
-    }
-    search
-}
-
-#[cycle(equal_choices)]
-fn equal_choices_item(item: &Item, from: Search) -> Search
-    requires { from.place + places_in (item_of item.now) < 2 ^ 32 }
-    ensures place { result.place ≡ from.place + places_in (item_of item.now) }
-    ensures found { result.found ≡ lesser from.found (least (equal_choices_in from.place (item_of item.now))) }
-{
-    match item {
-        Item::Burst(marks) => from.pass(marks.as_slice()),
-        Item::Alt(seqs) => {
-            let mut search = from.meet(twins_among(seqs.as_slice(), from.place));
-            for seq in seqs.as_slice() {
-                search = equal_choices_seq(seq, search);
-            }
-            search
+impl Equal<'_> {
+    fn place_with(&self, place: u32, marks: &[Mark]) -> Option<u32>
+        ensures { (bs : List Burst) → (Climbs 0 bs → Nearest self.now.marks.now bs self.now.place)
+            → Climbs 0 (bs ++ burst_at place marks.now ∷ []) → Nearest self.now.marks.now (bs ++ burst_at place marks.now ∷ []) result }
+    {
+        if self.place.is_some() {
+            return self.place;
+        }
+        if same_symbols(marks, self.marks) {
+            Some(place)
+        } else {
+            None
         }
     }
-}
-
-// Each first burst of a choice against those of the alternatives before its own.
-fn twins_among(choice: &[Seq], first: u32) -> Option<Fault>
-    requires { first + places_among (seqs_of choice.now) < 2 ^ 32 }
-    ensures { let alternatives = seqs_of choice.now in result ≡ least (twins_among (firsts_among first alternatives) first alternatives) }
-{
-    let mut search = Search::at(first);
-    for (index, seq) in choice.iter().enumerate() {
-        let until = search.place;
-        search = twins_seq(seq, search, &choice[..index], first, until);
-    }
-    search.found
-}
-
-// The first bursts of a tree against those of the alternatives `before` it, which begin at `first`
-// and end before `until`.
-#[cycle(twins_of)]
-fn twins_seq(seq: &Seq, from: Search, before: &[Seq], first: u32, until: u32) -> Search
-    requires fits { from.place + places_of seq.now < 2 ^ 32 }
-    requires before { first + places_among (seqs_of before.now) < 2 ^ 32 }
-    ensures place { result.place ≡ from.place + places_of seq.now }
-    ensures found { result.found ≡ lesser from.found (least (twins_of until (firsts_of from.place seq.now) (firsts_among first (seqs_of before.now)))) }
-{
-    match seq.items.as_slice() {
-        [] => from,
-        [item, rest @ ..] => twins_item(item, from, before, first, until).skip(rest),
-    }
-}
-
-#[cycle(twins_of)]
-fn twins_item(item: &Item, from: Search, before: &[Seq], first: u32, until: u32) -> Search
-    requires fits { from.place + places_in (item_of item.now) < 2 ^ 32 }
-    requires before { first + places_among (seqs_of before.now) < 2 ^ 32 }
-    ensures place { result.place ≡ from.place + places_in (item_of item.now) }
-    ensures found { result.found ≡ lesser from.found (least (twins_of until (firsts_in from.place (item_of item.now)) (firsts_among first (seqs_of before.now)))) }
-{
-    match item {
-        Item::Burst(marks) => {
-            let marks = marks.as_slice();
-            from.meet(twin_among(before, first, until, from.place, marks))
-                .pass(marks)
-        }
-        Item::Alt(seqs) => {
-            let mut search = from;
-            for seq in seqs.as_slice() {
-                search = twins_seq(seq, search, before, first, until);
-            }
-            search
-        }
-    }
-}
-
-// A burst against the first bursts of the alternatives `before`.
-fn twin_among(before: &[Seq], first: u32, until: u32, place: u32, marks: &[Mark]) -> Option<Fault>
-    requires { first + places_among (seqs_of before.now) < 2 ^ 32 }
-    ensures { result ≡ least (twins until (record { place = place; marks = marks.now }) (firsts_among first (seqs_of before.now))) }
-{
-    let mut search = Search::at(first);
-    for seq in before {
-        search = twin_seq(seq, search, until, place, marks);
-    }
-    search.found
-}
-
-#[cycle(twins)]
-fn twin_seq(seq: &Seq, from: Search, until: u32, place: u32, marks: &[Mark]) -> Search
-    requires { from.place + places_of seq.now < 2 ^ 32 }
-    ensures place { result.place ≡ from.place + places_of seq.now }
-    ensures found { result.found ≡ lesser from.found (least (twins until (record { place = place; marks = marks.now }) (firsts_of from.place seq.now))) }
-{
-    match seq.items.as_slice() {
-        [] => from,
-        [item, rest @ ..] => twin_item(item, from, until, place, marks).skip(rest),
-    }
-}
-
-#[cycle(twins)]
-fn twin_item(item: &Item, from: Search, until: u32, place: u32, marks: &[Mark]) -> Search
-    requires { from.place + places_in (item_of item.now) < 2 ^ 32 }
-    ensures place { result.place ≡ from.place + places_in (item_of item.now) }
-    ensures found { result.found ≡ lesser from.found (least (twins until (record { place = place; marks = marks.now }) (firsts_in from.place (item_of item.now)))) }
-{
-    match item {
-        Item::Burst(others) => {
-            let others = others.as_slice();
-            from.meet(twin_fault(place, marks, from.place, others, until))
-                .pass(others)
-        }
-        Item::Alt(seqs) => {
-            let mut search = from;
-            for seq in seqs.as_slice() {
-                search = twin_seq(seq, search, until, place, marks);
-            }
-            search
-        }
-    }
-}
-
-fn twin_fault(place: u32, marks: &[Mark], other: u32, others: &[Mark], until: u32) -> Option<Fault>
-    ensures { result ≡ least (twins until (record { place = place; marks = marks.now }) (record { place = other; marks = others.now } ∷ [])) }
-{
-    let test = other < until && same_set(marks, others);
-    fault_if(test, fault_at(0, place, other))
 }

@@ -1,6 +1,6 @@
 -- What stops a command file, and what it gives, exclude one another; bytes that were loaded of an admitted text are all.
-use Rattle.std.proofs.Common.{◌≡◌, ℕ, ◌≤◌, List, Option, Some, None, refl, sym, ap, ◌∙◌, subst, inl, inr, arith, take, length}
-use Rattle.std.specs.Prelude.{◌⊎◌, option_map}
+use Rattle.std.proofs.Common.{◌≡◌, ℕ, ◌≤◌, List, Some, refl, sym, ap, ◌∙◌, subst, inl, inr, arith, take, length}
+use Rattle.std.specs.Prelude.{◌⊎◌}
 use Rattle.std.specs.Option.{IfSome}
 use Rattle.std.proofs.lemmas.List.{take_all, length-take}
 use Rattle.cmd_tree.specs.declared.tree.Proc.{Proc}
@@ -12,17 +12,17 @@ use Rattle.cmd_text.specs.Fault as faults
 use Rattle.cmd_text.specs.Source.{IsFaultOfBytes, fault_of}
 use Rattle.cmd_text.proofs.WholeFile.{one_fault}
 use Rattle.di_grammar.specs.declared.answer.Broken.{Broken}
-use Rattle.di_grammar.specs.Rules.{broken}
-use Rattle.di_grammar.proofs.Answering.{admitted_none}
+use Rattle.di_grammar.specs.Admitted.{IsBroken}
+use Rattle.di_grammar.proofs.Answering.{broken_not_admitted, broken_one}
 use Rattle.di_top.specs.declared.outcome.Outcome.{Outcome}
-use Rattle.di_top.specs.declared.outcome.Outcome.TheVariants.{Refused, NoMemory, Limit}
+use Rattle.di_top.specs.declared.outcome.Outcome.TheVariants.{Refused, NoMemory}
 use Rattle.di_top.specs.declared.outcome.Why.TheVariants as why
 use Rattle.di_top.specs.declared.source.SourceRefusal.{SourceRefusal}
 use Rattle.di_top.specs.declared.source.SourceRefusal.TheVariants as source
 use Rattle.di_top.specs.Sources as spec
 use Rattle.di_top.specs.Sources.{Sourced, Main, Source, IsFileOf, sourced, TellsFile}
 use Rattle.di_top.specs.Calls.{Reading, Loaded}
-use Rattle.di_top.specs.CommandFiles.{command_cap, refused_as, told_of_text, told_of_source, StopsWith, TooLong, Faulty, Refuses, IsAdmittedText}
+use Rattle.di_top.specs.CommandFiles.{command_cap, RefusedAs, told_of_text, told_of_source, StopsWith, TooLong, Faulty, Refuses, IsAdmittedText}
 use Rattle.di_top.specs.Plans.{IsStop}
 use Rattle.di_top.proofs.Sourcing.{one_source, no_source}
 
@@ -48,9 +48,8 @@ source_stops bytes names ss (source.TooManyPlaces n) f h = inr (Refuses (spec.To
 source_stops bytes names ss source.NoMemory f h = inl refl
 
 pub grammar_stops : (bytes : List ℕ) (names all : List (List ℕ)) (ss : List Sentence) (procs : List Proc) (b : Broken) → IsFileOf bytes all ss
-    → sourced all ss ≡ Main names procs → broken procs ≡ Some b → StopsWith bytes (Refused (why.Grammar b))
-grammar_stops bytes names all ss procs b f e h =
-    Refuses (Main names procs) (source_is bytes all ss (Main names procs) f e) (ap (option_map (λ c. Refused (why.Grammar c))) h)
+    → sourced all ss ≡ Main names procs → IsBroken procs b → StopsWith bytes (Refused (why.Grammar b))
+grammar_stops bytes names all ss procs b f e h = Refuses (Main names procs) (source_is bytes all ss (Main names procs) f e) (b, h, refl)
 
 -- ---- an admitted text stops no call
 pub not_stopped : (bytes : List ℕ) (names : List (List ℕ)) (procs : List Proc) (outcome : Outcome) → IsAdmittedText bytes names procs → StopsWith bytes outcome → ⊥
@@ -58,9 +57,8 @@ not_stopped bytes names procs outcome a (TooLong long e) = omega (arith, a.sourc
 not_stopped bytes names procs outcome a (Faulty refusal fault few told is e) = no_source bytes fault (Main names procs) is a.source
 not_stopped bytes names procs outcome a (Refuses is s e) =
     let same : is ≡ Main names procs = one_source bytes is (Main names procs) s a.source in
-    let none : refused_as (Main names procs) ≡ None = ap (option_map (λ b. Refused (why.Grammar b))) (admitted_none procs a.admitted) in
-    let bad : None ≡ Some outcome = sym none ∙ ap refused_as (sym same) ∙ e in
-    absurd (cc)
+    let broken = subst (λ (x : Sourced). RefusedAs x outcome) same e in
+    broken_not_admitted procs broken.0 broken.1 a.admitted
 
 -- two admitted texts of the same bytes are of the same command
 pub one_text : (bytes : List ℕ) (names others : List (List ℕ)) (procs qrocs : List Proc) → IsAdmittedText bytes names procs → IsAdmittedText bytes others qrocs
@@ -82,16 +80,20 @@ stops_are_stops bytes outcome (TooLong long e) = let P : Outcome → Type 0 = Is
 stops_are_stops bytes outcome (Faulty refusal fault few told is e) = let P : Outcome → Type 0 = IsStop in subst P (sym e) tt
 stops_are_stops bytes outcome (Refuses is s e) = refuses_stop is outcome e
   where
-    some_stop : (o : Option Broken) (outcome : Outcome) → option_map (λ b. Refused (why.Grammar b)) o ≡ Some outcome → IsStop outcome
-    some_stop None outcome e = absurd (cc)
-    some_stop (Some b) outcome e = let same : Refused (why.Grammar b) ≡ outcome = cc in let P : Outcome → Type 0 = IsStop in subst P same tt
+    refuses_stop : (is : Sourced) (outcome : Outcome) → RefusedAs is outcome → IsStop outcome
+    refuses_stop spec.NotThisForm outcome e = let P : Outcome → Type 0 = IsStop in subst P (sym e) tt
+    refuses_stop (spec.TooManySymbols n) outcome e = let P : Outcome → Type 0 = IsStop in subst P (sym e) tt
+    refuses_stop (spec.TooManyProcs n) outcome e = let P : Outcome → Type 0 = IsStop in subst P (sym e) tt
+    refuses_stop (spec.TooManyPlaces n) outcome e = let P : Outcome → Type 0 = IsStop in subst P (sym e) tt
+    refuses_stop (Main names procs) outcome e = let P : Outcome → Type 0 = IsStop in subst P (sym e.2) tt
 
-    refuses_stop : (is : Sourced) (outcome : Outcome) → refused_as is ≡ Some outcome → IsStop outcome
-    refuses_stop spec.NotThisForm outcome e = let same : Refused why.NotThisForm ≡ outcome = cc in let P : Outcome → Type 0 = IsStop in subst P same tt
-    refuses_stop (spec.TooManySymbols n) outcome e = let same : Limit 3 n ≡ outcome = cc in let P : Outcome → Type 0 = IsStop in subst P same tt
-    refuses_stop (spec.TooManyProcs n) outcome e = let same : Limit 4 n ≡ outcome = cc in let P : Outcome → Type 0 = IsStop in subst P same tt
-    refuses_stop (spec.TooManyPlaces n) outcome e = let same : Limit 5 n ≡ outcome = cc in let P : Outcome → Type 0 = IsStop in subst P same tt
-    refuses_stop (Main names procs) outcome e = some_stop (broken procs) outcome e
+-- a file is refused with one outcome
+one_refusal : (is : Sourced) (a b : Outcome) → RefusedAs is a → RefusedAs is b → a ≡ b
+one_refusal spec.NotThisForm a b e h = e ∙ sym h
+one_refusal (spec.TooManySymbols n) a b e h = e ∙ sym h
+one_refusal (spec.TooManyProcs n) a b e h = e ∙ sym h
+one_refusal (spec.TooManyPlaces n) a b e h = e ∙ sym h
+one_refusal (Main names procs) a b e h = e.2 ∙ ap (λ x. Refused (why.Grammar x)) (broken_one procs e.0 h.0 e.1 h.1) ∙ sym h.2
 
 -- ---- bytes stop a call with one outcome
 abbrev fault_refusal : faults.Fault → Refusal
@@ -122,5 +124,5 @@ one_stop bytes a b (Faulty refusal fault few told is e) (Refuses it s h) = absur
 one_stop bytes a b (Refuses is s e) (TooLong long h) = absurd (omega (arith, long, s.read.few))
 one_stop bytes a b (Refuses is s e) (Faulty refusal fault few told it h) = absurd (no_source bytes fault is it s)
 one_stop bytes a b (Refuses is s e) (Refuses it t h) =
-    let same : Some a ≡ Some b = sym e ∙ ap refused_as (one_source bytes is it s t) ∙ h in
-    cc
+    let same : is ≡ it = one_source bytes is it s t in
+    one_refusal it a b (subst (λ (x : Sourced). RefusedAs x a) same e) h

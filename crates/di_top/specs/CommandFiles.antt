@@ -1,13 +1,14 @@
 -- What a command file is to each form of words that takes the command of `main`: it stops the call, or gives an
 -- admitted command.
-use Rattle.std.specs.Prelude.{◌≡◌, ℕ, suc, ◌≤◌, ◌<◌, List, Option, Some, option_map, length}
+use Rattle.std.specs.Prelude.{◌≡◌, ℕ, suc, ◌≤◌, ◌<◌, List, Some, length}
 use Rattle.cmd_tree.specs.declared.tree.Proc.{Proc}
 use Rattle.cmd_tree.specs.declared.limits.TheConstants.{MAX_FILE_BYTES}
 use Rattle.cmd_text.specs.declared.file.Refusal.{Refusal}
 use Rattle.cmd_text.specs.declared.file.Refusal.TheVariants as text
 use Rattle.cmd_text.specs.Fault as faults
 use Rattle.cmd_text.specs.Source.{IsFaultOfBytes, fault_of}
-use Rattle.di_grammar.specs.Rules.{broken, Admitted}
+use Rattle.di_grammar.specs.declared.answer.Broken.{Broken}
+use Rattle.di_grammar.specs.Admitted.{Admitted, IsBroken}
 use Rattle.di_top.specs.declared.outcome.Outcome.{Outcome}
 use Rattle.di_top.specs.declared.outcome.Outcome.TheVariants.{Refused, ReadFault, NoMemory, Limit}
 use Rattle.di_top.specs.declared.outcome.Why.TheVariants as why
@@ -21,12 +22,12 @@ abbrev pub command_cap : ℕ
 command_cap = suc MAX_FILE_BYTES
 
 -- what is answered of a file that is this, where it gives no admitted command
-abbrev pub refused_as : Sourced → Option Outcome
-refused_as NotThisForm = Some (Refused why.NotThisForm)
-refused_as (TooManySymbols n) = Some (Limit 3 n)
-refused_as (TooManyProcs n) = Some (Limit 4 n)
-refused_as (TooManyPlaces n) = Some (Limit 5 n)
-refused_as (Main names procs) = option_map (λ b. Refused (why.Grammar b)) (broken procs)
+abbrev pub RefusedAs : Sourced → Outcome → Type 0
+RefusedAs NotThisForm outcome = outcome ≡ Refused why.NotThisForm
+RefusedAs (TooManySymbols n) outcome = outcome ≡ Limit 3 n
+RefusedAs (TooManyProcs n) outcome = outcome ≡ Limit 4 n
+RefusedAs (TooManyPlaces n) outcome = outcome ≡ Limit 5 n
+RefusedAs (Main names procs) outcome = (b : Broken) × IsBroken procs b × (outcome ≡ Refused (why.Grammar b))
 
 -- the outcome of each refusal
 abbrev pub told_of_text : Refusal → Outcome
@@ -49,7 +50,7 @@ pub data StopsWith (bytes : List ℕ) (outcome : Outcome) : Type 0 where
   TooLong : MAX_FILE_BYTES < length bytes → outcome ≡ Limit 1 (length bytes) → StopsWith bytes outcome
   Faulty : (refusal : Refusal) (fault : faults.Fault) → length bytes ≤ MAX_FILE_BYTES → fault_of refusal ≡ Some fault → IsFaultOfBytes bytes fault
       → outcome ≡ Refused (why.Text refusal) → StopsWith bytes outcome
-  Refuses : (is : Sourced) → Source bytes is → refused_as is ≡ Some outcome → StopsWith bytes outcome
+  Refuses : (is : Sourced) → Source bytes is → RefusedAs is outcome → StopsWith bytes outcome
 
 -- the bytes are, within the limits, a text of this one command, and it is admitted
 pub record IsAdmittedText (bytes : List ℕ) (names : List (List ℕ)) (procs : List Proc) : Type 0 where

@@ -1,13 +1,12 @@
-use Rattle.std.proofs.Common.{sym, ◌∙◌, ap}
-use Rattle.di_grammar.specs.Rules.{broken}
-use Rattle.di_grammar.proofs.Answering.{none_admitted, admitted_none}
+use Rattle.std.proofs.Common.{◌≡◌, ◌↔◌, List, subst, sym, None}
+use Rattle.cmd_tree.specs.declared.tree.Proc.{Proc}
+use Rattle.di_grammar.specs.Admitted.{Admitted}
+use Rattle.di_grammar.specs.Mirror.Answering.{AreFew}
+use Rattle.di_grammar.proofs.Answering.{are_few, answer_none}
 use Rattle.di_grammar.proofs.answer.check.Goals as goal
 
-pub returns : goal.returns
-returns c =
-    let least = c.first_broken.ensures ∙ ap broken c.as_slice.ensures in
-    record {
-      least = least;
-      none = λ h. none_admitted c.args.command.now.procs (sym least ∙ h);
-      admitted = λ a. least ∙ admitted_none c.args.command.now.procs a;
-    }
+pub first_broken-requires : goal.first_broken-requires
+first_broken-requires c = subst AreFew (sym c.as_slice.ensures) (are_few c.args.command.now.names c.args.command.now.procs c.args.command.now.valid)
+
+pub returns-clause-none : goal.returns-clause-none
+returns-clause-none c = subst (λ (ps : List Proc). (c.first_broken.result ≡ None) ↔ Admitted ps) c.as_slice.ensures (answer_none c.as_slice.result.now c.first_broken.result c.first_broken.ensures)

@@ -1,14 +1,10 @@
-use Rattle.std.proofs.Common.{sym, ◌∙◌}
-use Rattle.di_grammar.specs.Rules.{rules}
-use Rattle.di_grammar.proofs.Answering.{rule_found, rule_past}
+use Rattle.std.proofs.Common.{arith}
+use Rattle.di_grammar.proofs.Answering.{admitted_all, number_few, broken_at}
 use Rattle.di_grammar.proofs.answer.first_broken.Goals as goal
 
-pub returns-then-is_some : goal.returns-then-is_some
-returns-then-is_some c =
-    rule_found c.args.procs.now rules c.loop-rule.rule-index _ c.broken_in-broken.result c.loop-rule-test.true c.broken_in-broken.ensures (sym c.is_some.ensures ∙ c.if-is_some.true)
-    ∙ c.loop-rule.invariant
+pub returns-in-Some : goal.returns-in-Some
+returns-in-Some c = broken_at c.args.procs.now c.loop-rule.rule-index _ c.in-Some.breach c.number.result c.loop-rule-test.true c.number.ensures c.loop-rule.invariant
+    c.first_breach.result c.in-Some.is c.first_breach.ensures
 
-pub loop-rule-preserved : goal.loop-rule-preserved
-loop-rule-preserved c =
-    rule_past c.args.procs.now rules c.loop-rule.rule-index _ c.broken_in-broken.result c.loop-rule-test.true c.broken_in-broken.ensures (sym c.is_some.ensures ∙ c.if-is_some.false)
-    ∙ c.loop-rule.invariant
+pub returns : goal.returns
+returns c = admitted_all c.args.procs.now (λ r. c.loop-rule.invariant r (omega (arith, number_few r, c.loop-rule-test.false)))

@@ -1,6 +1,7 @@
-use Rattle.std.proofs.Common.{◌≡◌, ◌≤◌, ◌∙◌, sym, subst, inr, length, arith}
+use Rattle.std.proofs.Common.{◌≡◌, ◌≤◌, sym, subst, inr, length, arith}
 use Rattle.std.specs.Prelude.{◌⊎◌}
 use Rattle.cmd_tree.specs.declared.limits.TheConstants.{MAX_FILE_BYTES}
+use Rattle.di_grammar.specs.Admitted.{Answer}
 use Rattle.di_top.specs.declared.outcome.Outcome.{Outcome}
 use Rattle.di_top.specs.declared.outcome.Outcome.TheVariants.{NoMemory}
 use Rattle.di_top.specs.CommandFiles.{StopsWith, told_of_text, told_of_source}
@@ -36,4 +37,4 @@ returns-in-Some-clause-stop c =
     let read : IsFileOf c.args.bytes.now c.in_ok-file.file.names c.in_ok-file.file.sentences =
     record { few = few; text = c.in_ok-file.ensures.ok.0; shallow = c.in_ok-file.ensures.ok.1 } in
     inr (grammar_stops c.args.bytes.now c.in_ok-command.command.names c.in_ok-file.file.names c.in_ok-file.file.sentences c.in_ok-command.command.procs
-    c.in-Some.broken read c.in_ok-command.ensures.ok (sym c.check.ensures.least ∙ c.in-Some.is))
+    c.in-Some.broken read c.in_ok-command.ensures.ok (subst (Answer c.in_ok-command.command.procs) c.in-Some.is c.check.ensures.answer))
