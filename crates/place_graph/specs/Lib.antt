@@ -1,0 +1,11 @@
+pub mod Points
+pub mod Walks
+pub mod Graph
+pub mod GraphTraces
+pub mod Tale
+pub mod Chart
+pub mod Apart
+pub mod Style
+pub mod StyleLegs
+pub mod Drawable
+pub mod Mirror
