@@ -1,0 +1,17 @@
+use Rattle.plain_split.specs.RoundsCommands.{round_parts}
+use Rattle.plain_split.proofs.RoundsLaw.{rounds_hold}
+use Rattle.plain_split.proofs.RoundsCommand.{rounds_command_right, rounds_command_wires}
+use Rattle.plain_split.proofs.RoundsKinds.{rounds_kinds}
+use Rattle.plain_split.proofs.laws.rounds_law.Goals as goal
+
+pub returns-clause-process : goal.returns-clause-process
+returns-clause-process c = rounds_hold
+
+pub returns-clause-command : goal.returns-clause-command
+returns-clause-command c = rounds_command_right
+
+pub returns-clause-wires : goal.returns-clause-wires
+returns-clause-wires c = rounds_command_wires
+
+pub returns-clause-kinds : goal.returns-clause-kinds
+returns-clause-kinds c = λ b p e k. rounds_kinds (round_parts b p e) k
