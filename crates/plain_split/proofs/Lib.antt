@@ -14,7 +14,10 @@ pub mod OneWaitWires
 pub mod SharedCommands
 pub mod OneWaitKinds
 pub mod SharedEntries
+pub mod OneWaitTabled
+pub mod OneWaitBuilt
 pub mod OneWaitLaw
+pub mod JoinedSteps
 pub mod RoundsPlan
 pub mod RoundsWeb
 pub mod RoundsSound
@@ -33,3 +36,4 @@ pub mod RoundsLaw
 pub mod RoundsCommand
 pub mod RoundsKinds
 pub mod RoundsWires
+pub mod RoundsExamples

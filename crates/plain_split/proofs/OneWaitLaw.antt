@@ -34,7 +34,9 @@ use Rattle.place_graph.proofs.Walking.{trace_moves}
 use Rattle.place_graph.proofs.LegBounds.{legs_few, legs_marks}
 use Rattle.place_graph.proofs.Listed.{in_points, index_one, point_at, one_map, map_one}
 use Rattle.plain_split.specs.OneWait.{Links, links, lines, one_chart}
-use Rattle.plain_split.specs.OneWaitCommands.{HasOneWait, one_wait_net}
+use Rattle.plain_split.specs.OneWaitCommands.{HasOneWait, links_of, one_wait_net}
+use Rattle.plain_split.specs.Mirror.OneWaitTables.{LinkTables, links_by, tables_of, IsSmall}
+use Rattle.plain_split.proofs.OneWaitTabled.{tables_right}
 use Rattle.plain_split.proofs.OneWaitWires.{lines_few, marks_places}
 use Rattle.plain_split.proofs.SharedEntries.{leg_comes, mark_legs}
 use Rattle.plain_split.proofs.OneWaitLong.{few_long, once_times}
@@ -205,3 +207,27 @@ module _ (c : Command) (p : Proc) (h : HasOneWait c p) where
 
   pub one_command_wires : (one_wait_net c p).wires < 2 ^ 20
   one_command_wires = omega (arith, wires_few directions p proc body h.fair h.directions h.sets h.style (length c.names) symbols_known, places, c.valid.few_symbols)
+
+  -- ---- its tables
+
+  pub command_tables : links_by (tables_of (graph_of p) (length c.names)) ≡ links_of c p
+  command_tables = tables_right (legs p) directions (one directions p proc body h.fair h.directions h.sets h.style (length c.names) symbols_known) (graph_of p) (length c.names)
+      (burst_number (legs p)) (λ x. index_of x (act_points (legs p)))
+      (is_drawn directions p proc body h.fair h.directions h.sets h.style (length c.names) symbols_known)
+      (is_listed directions p proc body h.fair h.directions h.sets h.style (length c.names) symbols_known)
+
+  pub command_small : IsSmall (links_of c p)
+  command_small =
+      let w : IsNarrow (links_of c p) = narrow directions p proc body h.fair h.directions h.sets h.style (length c.names) symbols_known (omega (arith, places)) (omega (arith, c.valid.few_symbols)) in
+      record {
+        bursts = omega (arith, places, legs_few p proc, bursts_few (legs p));
+        acts = omega (arith, places, legs_few p proc, few_filter is_act (legs p), map_long (act (legs p)) (acts_of (legs p)));
+        names = omega (arith, c.valid.few_symbols);
+        symbols = λ b. omega (arith, w.symbols b);
+        entries = λ n. omega (arith, w.entries n);
+        outs = λ n. omega (arith, w.outs n);
+        givers = λ a. omega (arith, w.givers a);
+      }
+
+  pub tables_of_command : (t : LinkTables) (graph : WaitGraph) (names : ℕ) → t ≡ tables_of graph names → names ≡ length c.names → graph ≡ graph_of p → links_by t ≡ links_of c p
+  tables_of_command t graph names e n g = ap links_by (e ∙ ap (tables_of graph) n ∙ ap (λ d. tables_of d (length c.names)) g) ∙ command_tables

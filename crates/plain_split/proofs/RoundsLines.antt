@@ -9,7 +9,7 @@ use Rattle.net_laws.proofs.Among.{Among, Distinct}
 use Rattle.net_laws.proofs.Rows.{among_left, among_right, among_either, distinct_both}
 use Rattle.net_laws.proofs.Blocks.{among_each, each_among, distinct_each}
 use Rattle.plain_split.specs.RoundsNet.{Path, Top, Odd, Even, depth, pow, first_at, leaf, Wire, Sym, To, Go, Put, Out, Name, Env, Join, Tog, Gate, Spread, Shows}
-use Rattle.plain_split.specs.RoundsChart.{Parts, is_single, sole, entry, act_at, givers, begins_all, is_kept, back_go, back_put, back, on_put, on_go, on, ends_inside, count, is_out, outer, outer_ports, places, puts, inner_wires, lines}
+use Rattle.plain_split.specs.RoundsChart.{Parts, is_single, sole, entry, act_at, givers, begins_process, is_kept, back_go, back_put, back, on_put, on_go, on, ends_inside, count, is_out, outer, outer_ports, places, puts, inner_wires, lines}
 use Rattle.plain_split.proofs.RoundsPlan.{Sane}
 use Rattle.plain_split.proofs.RoundsWeb.{driver, receiver, to_gate}
 use Rattle.plain_split.proofs.RoundsDeal.{pow_some, first_low, first_leaf, leaf_deep, leaf_first}
@@ -73,17 +73,17 @@ module _ (r : Parts) (T : List ℕ → Type 0) (fine : Fine r T) (sane : Sane (p
   -- ---- from the first wire to the last one
 
   go_on : (y : ℕ) → y < pow r.levels → on r (back_go r y) ≡ on_go r y
-  go_on y low = at (begins_all r y) refl
+  go_on y low = at (begins_process r y) refl
     where
       deep : depth (entry r y) ≡ r.levels
       deep = sane.entry_deep y low
 
-      at : (b : Bool) → begins_all r y ≡ b → on r (if b then Go y else To (entry r y)) ≡ on_go r y
+      at : (b : Bool) → begins_process r y ≡ b → on r (if b then Go y else To (entry r y)) ≡ on_go r y
       at true e = refl
       at false e =
           let same : act_at r (entry r y) ≡ y = sane.act_back y low in
-          ap (λ b. if b then (if begins_all r (act_at r (entry r y)) then To (entry r y) else on_go r (act_at r (entry r y))) else To (entry r y)) (eq-eqb (depth (entry r y)) r.levels deep)
-          ∙ ap (λ (x : ℕ). if begins_all r x then To (entry r y) else on_go r x) same
+          ap (λ b. if b then (if begins_process r (act_at r (entry r y)) then To (entry r y) else on_go r (act_at r (entry r y))) else To (entry r y)) (eq-eqb (depth (entry r y)) r.levels deep)
+          ∙ ap (λ (x : ℕ). if begins_process r x then To (entry r y) else on_go r x) same
           ∙ ap (λ b. if b then To (entry r y) else on_go r y) e
 
   put_on : (y a : ℕ) → y < pow r.levels → is_in a (r.outs y) ≡ true → on r (back_put r y a) ≡ on_put r y a
@@ -115,24 +115,24 @@ module _ (r : Parts) (T : List ℕ → Type 0) (fine : Fine r T) (sane : Sane (p
     where
       at : (b : Bool) → is_single r.burst ≡ b → on r (if b then Sym (sole r.burst) else To Top) ≡ To Top
       at true e = ap (λ b. if b then To Top else Sym (sole r.burst)) e
-      at false e = ap (λ b. if b then (if begins_all r (act_at r Top) then To Top else on_go r (act_at r Top)) else To Top) (ne_eqb 0 r.levels (λ z. omega (arith, fine.some_levels)))
+      at false e = ap (λ b. if b then (if begins_process r (act_at r Top) then To Top else on_go r (act_at r Top)) else To Top) (ne_eqb 0 r.levels (λ z. omega (arith, fine.some_levels)))
   on_back (To (Odd p)) h k = stays (Odd p) h k
     where
       stays : (q : Path) → depth q ≤ r.levels → K (receiver (plan_of r T) (To q)) → on r (To q) ≡ To q
       stays q low kept = elim (cases_eq (depth q) r.levels) [
         | inl deep ↦
-            ap (λ b. if b then (if begins_all r (act_at r q) then To q else on_go r (act_at r q)) else To q) (eq-eqb (depth q) r.levels deep)
+            ap (λ b. if b then (if begins_process r (act_at r q) then To q else on_go r (act_at r q)) else To q) (eq-eqb (depth q) r.levels deep)
             ∙ ap (λ b. if b then To q else on_go r (act_at r q)) (subst K (to_gate (plan_of r T) q deep) kept)
-        | inr inner ↦ ap (λ b. if b then (if begins_all r (act_at r q) then To q else on_go r (act_at r q)) else To q) (ne_eqb (depth q) r.levels inner)
+        | inr inner ↦ ap (λ b. if b then (if begins_process r (act_at r q) then To q else on_go r (act_at r q)) else To q) (ne_eqb (depth q) r.levels inner)
       ]
   on_back (To (Even p)) h k = stays (Even p) h k
     where
       stays : (q : Path) → depth q ≤ r.levels → K (receiver (plan_of r T) (To q)) → on r (To q) ≡ To q
       stays q low kept = elim (cases_eq (depth q) r.levels) [
         | inl deep ↦
-            ap (λ b. if b then (if begins_all r (act_at r q) then To q else on_go r (act_at r q)) else To q) (eq-eqb (depth q) r.levels deep)
+            ap (λ b. if b then (if begins_process r (act_at r q) then To q else on_go r (act_at r q)) else To q) (eq-eqb (depth q) r.levels deep)
             ∙ ap (λ b. if b then To q else on_go r (act_at r q)) (subst K (to_gate (plan_of r T) q deep) kept)
-        | inr inner ↦ ap (λ b. if b then (if begins_all r (act_at r q) then To q else on_go r (act_at r q)) else To q) (ne_eqb (depth q) r.levels inner)
+        | inr inner ↦ ap (λ b. if b then (if begins_process r (act_at r q) then To q else on_go r (act_at r q)) else To q) (ne_eqb (depth q) r.levels inner)
       ]
   on_back (Go y) h k = go_on y h ∙ ap (λ b. if b then on_put r y (sole (r.outs y)) else Go y) (is_not (is_single (r.outs y)) k)
   on_back (Put y a) h k = put_on y a h.0 h.1 ∙ ap (λ b. if b then Out a else Put y a) (is_not (is_single (givers r a)) k)

@@ -21,7 +21,7 @@ use Rattle.net_laws.proofs.Rows.{among_left, among_right, among_either, distinct
 use Rattle.net_laws.proofs.Rules.{RoundsOn, rounds_spec}
 use Rattle.net_laws.proofs.KindRules.{KindOn, kind_spec}
 use Rattle.plain_split.specs.RoundsNet.{Path, Top, Odd, Even, depth, pow, Wire, Sym, To, Go, Put, Out, Name, Env, Join, Tog, Gate, Spread, Shows}
-use Rattle.plain_split.specs.RoundsChart.{Parts, entry, act_at, givers, begins_all, count, is_out, outer, outer_ports}
+use Rattle.plain_split.specs.RoundsChart.{Parts, entry, act_at, givers, begins_process, count, is_out, outer, outer_ports}
 use Rattle.plain_split.proofs.RoundsPlan.{sum_over, Sane}
 use Rattle.plain_split.proofs.RoundsWeb.{same_wire, wires_decide, word, word_sym, word_out, receiver, below, to_gate, to_tog, takes_to, Rule, web}
 use Rattle.plain_split.proofs.RoundsRing.{opened_by}
@@ -294,7 +294,7 @@ module _ (r : Parts) (T : List ℕ → Type 0) (fine : Fine r T) (sane : Sane (p
 
   -- ---- the IWIRE of the act that begins the process
 
-  module _ (y : ℕ) (low : y < pow r.levels) (begins : begins_all r y ≡ true) where
+  module _ (y : ℕ) (low : y < pow r.levels) (begins : begins_process r y ≡ true) where
     opened_one : opened_by r.opens y ≡ 1
     opened_one = at r.opens y begins
       where

@@ -3,7 +3,8 @@ use Rattle.std.specs.Prelude.{filter, if◌then◌else◌, not, ◌&&◌, nat_eq
 use Rattle.std.proofs.Common.{eqb-true, ◌≡◌, ◌↔◌, ℕ, zero, suc, ◌+◌, ◌<◌, ◌≤◌, ◌^◌, Bool, true, false, true≢false, List, [], ◌∷◌, ◌++◌, map, length, get_or, ◌⊎◌, inl, inr, refl, sym, ap, subst, ◌∙◌, arith}
 use Rattle.std.specs.List.{AllByRecursion, range_with_len, position_or_len}
 use Rattle.std.proofs.lemmas.Bool.{cases_eq, cases_Bool, and_parts, and_from, lt-ltb, ltb-true}
-use Rattle.std.proofs.lemmas.List.{length-map}
+use Rattle.std.proofs.lemmas.List.{length-map, length-append, get_or_append_left, get_or-map}
+use Rattle.std.proofs.lemmas.List.FromFn.{length-map-range_with_len, get_or-map-range_with_len}
 use native.Mathlib.Decide.{ℕ_discrete}
 use Rattle.cmd_tree.specs.Lists.{is_in}
 use Rattle.net_core.specs.Specs.{outs_of, IsFormed, May, is_kind}
@@ -17,11 +18,11 @@ use Rattle.net_laws.proofs.Routes.{Joined, Routes, routes_basic, routes_clean, r
 use Rattle.net_laws.proofs.Rows.{among_left, among_right, among_either, distinct_both, joined_outs, joined_ins, joined_both}
 use Rattle.net_laws.proofs.Blocks.{among_each, each_among, distinct_each}
 use Rattle.plain_split.specs.RoundsNet.{Path, Top, Odd, Even, depth, pow, first_at, leaf, path_discrete, Wire, Sym, To, Go, Put, Out, wire_discrete, Name, Env, Join, Tog, Gate, Spread, Shows}
-use Rattle.plain_split.specs.RoundsChart.{Parts, is_single, sole, same, entry, act_at, givers, begins_all, is_kept, back, on_put, on_go, on, count, is_out, outer, outer_ports, lines, ports, spec_of, toggles, parts, rounds_chart}
+use Rattle.plain_split.specs.RoundsChart.{Parts, is_single, sole, same, entry, act_at, givers, begins_process, is_kept, back, on_put, on_go, on, count, is_out, outer, outer_ports, lines, ports, spec_of, toggles, parts, rounds_chart, ends_inside, inner_wires}
 use Rattle.plain_split.proofs.RoundsPlan.{Sane}
 use Rattle.plain_split.proofs.RoundsWeb.{driver, receiver, to_gate, to_tog, There, web, clean, lawful}
 use Rattle.plain_split.proofs.RoundsDeal.{pow_some, first_low, first_leaf, leaf_deep, leaf_first}
-use Rattle.plain_split.proofs.RoundsLists.{all_of, filter_among, among_filter, distinct_filter, places_are, map_among, among_map, distinct_map}
+use Rattle.plain_split.proofs.RoundsLists.{all_of, filter_among, among_filter, distinct_filter, places_are, map_among, among_map, distinct_map, place_at}
 use Rattle.plain_split.proofs.RoundsRoutes.{Fine, plan_of, in_among, among_in, several, range_in, in_givers, back_is, back_same, last_of}
 use Rattle.plain_split.proofs.RoundsLines.{range_low, range_once, label, outer_at, outer_there, sym_outer, out_outer, outer_once, on_back, line_is, line_in, lines_once}
 use Rattle.plain_split.proofs.RoundsMay.{nothing, join_once, join_may, spread_once, spread_may, tog_once, tog_may, gate_once, gate_may, shows_once, shows_may, env_may}
@@ -402,7 +403,7 @@ module _ (r : Parts) (T : List ℕ → Type 0) (fine : Fine r T) (sane : Sane (p
       at false = tt
 
   on_to : (p : Path) → (on r (To p) ≡ To p) ⊎ Late (on r (To p))
-  on_to p = at (nat_eq (depth p) r.levels) (begins_all r (act_at r p))
+  on_to p = at (nat_eq (depth p) r.levels) (begins_process r (act_at r p))
     where
       at : (b c : Bool) → ((if b then (if c then To p else on_go r (act_at r p)) else To p) ≡ To p) ⊎ Late (if b then (if c then To p else on_go r (act_at r p)) else To p)
       at true true = inl refl
@@ -487,3 +488,15 @@ module _ (r : Parts) (T : List ℕ → Type 0) (fine : Fine r T) (sane : Sane (p
     clean = routes_clean Name Wire (web (plan_of r T)) K G (rounds_chart r) (lines r) (back r) (λ w. w) (on r) (nothing r T fine sane) (lawful (plan_of r T)) routes;
     correct = routes_correct Name Wire (web (plan_of r T)) K G (rounds_chart r) (lines r) (back r) (λ w. w) (on r) (nothing r T fine sane) (lawful (plan_of r T)) routes sound exact;
   }
+
+  -- the wire at the port of a symbol has the number of the symbol
+  pub outer_number : (a : ℕ) → a < count r → position_or_len (same (back r (outer r a))) (lines r) ≡ a
+  outer_number a low =
+      let none : Wire = nothing r T fine sane in
+      let long : length (outer_ports r) ≡ count r = length-map-range_with_len (outer r) 0 (count r) in
+      let wide : length (map (back r) (outer_ports r)) ≡ count r = length-map (outer_ports r) (back r) ∙ long in
+      let at : get_or (lines r) a none ≡ back r (outer r a) =
+      get_or_append_left (map (back r) (outer_ports r)) (filter (λ w. ends_inside (on r w)) (inner_wires r)) none a (omega arith)
+      ∙ get_or-map (back r) (outer_ports r) a none none (omega arith) ∙ ap (back r) (get_or-map-range_with_len (outer r) 0 (count r) a a none low (omega arith)) in
+      let inside : a < length (lines r) = omega (arith, length-append (map (back r) (outer_ports r)) (filter (λ w. ends_inside (on r w)) (inner_wires r))) in
+      ap (λ v. position_or_len (same v) (lines r)) (sym at) ∙ place_at same same_one same_self none (lines r) (lines_once r T fine sane) a inside

@@ -10,7 +10,7 @@ use Rattle.net_core.specs.Specs.{IsFormed, May}
 use Rattle.net_laws.proofs.Paths.{Hop, Path as Way, here, hop}
 use Rattle.net_laws.proofs.Among.{Among, Distinct}
 use Rattle.plain_split.specs.RoundsNet.{Path, Top, Odd, Even, depth, pow, Wire, Sym, To, Go, Put, Out, Name, Join, Tog, Gate, Spread, Shows}
-use Rattle.plain_split.specs.RoundsChart.{Parts, is_single, sole, entry, act_at, givers, begins_all, is_kept, back_go, back_put, back, on_put, on_go, on, count, is_out}
+use Rattle.plain_split.specs.RoundsChart.{Parts, is_single, sole, entry, act_at, givers, begins_process, is_kept, back_go, back_put, back, on_put, on_go, on, count, is_out}
 use Rattle.plain_split.proofs.RoundsPlan.{Plan, when, sum_over, Sane}
 use Rattle.plain_split.proofs.RoundsWeb.{same_wire, driver, receiver, to_gate, to_tog, There, takes_to, Rule, web, clean}
 use Rattle.plain_split.proofs.RoundsRing.{opened_by}
@@ -135,9 +135,9 @@ module _ (r : Parts) (T : List ℕ → Type 0) (fine : Fine r T) (sane : Sane (p
   -- ---- back to the first wire
 
   go_back : (y : ℕ) → y < pow r.levels → Here (back_go r y) × Kept (driver (back_go r y)) × (back r (back_go r y) ≡ back_go r y)
-  go_back y low = at (begins_all r y) refl
+  go_back y low = at (begins_process r y) refl
     where
-      at : (b : Bool) → begins_all r y ≡ b → Here (if b then Go y else To (entry r y)) × Kept (driver (if b then Go y else To (entry r y)))
+      at : (b : Bool) → begins_process r y ≡ b → Here (if b then Go y else To (entry r y)) × Kept (driver (if b then Go y else To (entry r y)))
           × (back r (if b then Go y else To (entry r y)) ≡ (if b then Go y else To (entry r y)))
       at true e = (low, e, rw e refl)
       at false e = let deep = sane.entry_deep y low in (omega arith, leaf_driven (entry r y) deep, leaf_back (entry r y) deep)
@@ -284,7 +284,7 @@ module _ (r : Parts) (T : List ℕ → Type 0) (fine : Fine r T) (sane : Sane (p
       passed t (h, inl e) = e.1
       passed t (h, inr e) = absurd (cc (e.0))
 
-  opened_zero : (y : ℕ) → begins_all r y ≡ false → opened_by r.opens y ≡ 0
+  opened_zero : (y : ℕ) → begins_process r y ≡ false → opened_by r.opens y ≡ 0
   opened_zero y = at r.opens y
     where
       at : (b : Bool) (y : ℕ) → (b && nat_eq y 0) ≡ false → opened_by b y ≡ 0
@@ -306,7 +306,7 @@ module _ (r : Parts) (T : List ℕ → Type 0) (fine : Fine r T) (sane : Sane (p
           (last_put y a low (among_in a (r.outs y) (sole_in (r.outs y) (fine.outs_some y low))))
       at false e = last_here (Go y) low (ap not e)
 
-  gate_hop : (p : Path) → depth p ≡ r.levels → begins_all r (act_at r p) ≡ false → Hop Name Wire (web (plan_of r T)) Kept (To p) (Go (act_at r p))
+  gate_hop : (p : Path) → depth p ≡ r.levels → begins_process r (act_at r p) ≡ false → Hop Name Wire (web (plan_of r T)) Kept (To p) (Go (act_at r p))
   gate_hop p deep none = record {
     joins = sym gate;
     inner = λ k. true≢false (sym (subst Kept gate k) ∙ none);
@@ -370,13 +370,13 @@ module _ (r : Parts) (T : List ℕ → Type 0) (fine : Fine r T) (sane : Sane (p
 
   last_to : (p : Path) → depth p ≤ r.levels → Last (To p) (on r (To p))
   last_to p h = elim (cases_eq (depth p) r.levels) [
-    | inl deep ↦ subst (λ b. Last (To p) (if b then (if begins_all r (act_at r p) then To p else on_go r (act_at r p)) else To p)) (sym (eq-eqb (depth p) r.levels deep)) (gate deep (begins_all r (act_at r p)) refl)
+    | inl deep ↦ subst (λ b. Last (To p) (if b then (if begins_process r (act_at r p) then To p else on_go r (act_at r p)) else To p)) (sym (eq-eqb (depth p) r.levels deep)) (gate deep (begins_process r (act_at r p)) refl)
     | inr inner ↦
-        subst (λ b. Last (To p) (if b then (if begins_all r (act_at r p) then To p else on_go r (act_at r p)) else To p)) (sym (ne_eqb (depth p) r.levels inner))
+        subst (λ b. Last (To p) (if b then (if begins_process r (act_at r p) then To p else on_go r (act_at r p)) else To p)) (sym (ne_eqb (depth p) r.levels inner))
         (last_here (To p) h (subst Kept (sym (to_tog (plan_of r T) p (omega arith))) (lt-ltb (depth p) r.levels (omega arith))))
   ]
     where
-      gate : depth p ≡ r.levels → (b : Bool) → begins_all r (act_at r p) ≡ b → Last (To p) (if b then To p else on_go r (act_at r p))
+      gate : depth p ≡ r.levels → (b : Bool) → begins_process r (act_at r p) ≡ b → Last (To p) (if b then To p else on_go r (act_at r p))
       gate deep true e = last_here (To p) h (subst Kept (sym (to_gate (plan_of r T) p deep)) e)
       gate deep false e =
           let low : act_at r p < pow r.levels = sane.act_low p deep in

@@ -6,3 +6,4 @@ pub mod RoundsNet
 pub mod RoundsChart
 pub mod RoundsParts
 pub mod RoundsCommands
+pub mod Mirror

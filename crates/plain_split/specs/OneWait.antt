@@ -1,4 +1,5 @@
--- The network of a process that takes all its bursts at one wait, by names. Each burst leads to one act, and the acts need no word from the wait.
+-- The network of a process that takes all its bursts at one wait, by names. Each burst leads to one act,
+-- and the acts need no word from the wait.
 use Rattle.std.specs.Prelude.{ℕ, Bool, true, false, not, ◌&&◌, ◌||◌, if◌then◌else◌, List, [], ◌∷◌, ◌++◌, map, filter, length, get_or, nat_eq}
 use Rattle.std.specs.List.{range_with_len, position_or_len}
 use native.Mathlib.Decide.{ℕ_discrete}
@@ -21,7 +22,8 @@ pub data Wire : Type 0 where
   Take : ℕ → Wire
   -- a burst, from its C to an act
   Burst : ℕ → ℕ → Wire
-  -- the call of an act, from the MERGE of its bursts to its gate, and what the gate lets through to its FORK
+  -- the call of an act, from the MERGE of its bursts to its gate, and what the gate lets through to its
+  -- FORK
   Call : ℕ → Wire
   Begin : ℕ → Wire
   -- an output of an act, from its FORK to the MERGE of this symbol
@@ -39,8 +41,10 @@ pub data Name : Type 0 where
   Shows : ℕ → Name
   deriving Discrete as name_discrete
 
--- The graph of a process with one wait, as its network has it: the burst of a symbol, the symbols of a burst and the acts that it leads to; of an act the
--- bursts that lead to it, whether the process begins there, and its outputs; and the acts that give a symbol.
+-- The graph of a process with one wait, as its network has it: the burst of a symbol, the symbols of a
+-- burst and the acts that it leads to; of an act the
+-- bursts that lead to it, whether the process begins there, and its outputs; and the acts that give a
+-- symbol.
 pub record Links : Type 0 where
   pub home : ℕ → ℕ
   pub symbols : ℕ → List ℕ

@@ -15,7 +15,8 @@ use Rattle.net_core.specs.declared.spec.NodeSpec.TheVariants.{Cmd}
 use Rattle.net_laws.specs.Charts.{charted}
 use Rattle.plain_split.specs.OneWait.{Links, links, one_chart}
 
--- The command is the fair process p alone. Each mark has the direction of its symbol, inputs belong to one burst as a set, and there is one wait.
+-- The command is the fair process p alone. Each mark has the direction of its symbol, inputs belong to
+-- one burst as a set, and there is one wait.
 pub record HasOneWait (c : Command) (p : Proc) : Type 0 where
   pub alone : c.procs ≡ p ∷ []
   pub fair : IsFair (gives_symbol (marks_of_all c.procs)) p

@@ -56,8 +56,10 @@ how_many test (x ∷ xs) = (if test x then 1 else 0) + how_many test xs
 abbrev pub how_many_below : ℕ → (ℕ → Bool) → ℕ
 how_many_below k test = how_many test (range_with_len 0 k)
 
--- A C for each burst of two and more symbols; a MERGE for each act with two and more entries, and for each symbol of two and more acts; a FORK for each
--- act with two and more outputs; an IWIRE or a SOURCE where the process begins with an act, with and without entries; and a WIRE for each direct path.
+-- A C for each burst of two and more symbols; a MERGE for each act with two and more entries, and for
+-- each symbol of two and more acts; a FORK for each
+-- act with two and more outputs; an IWIRE or a SOURCE where the process begins with an act, with and
+-- without entries; and a WIRE for each direct path.
 abbrev pub one_wait_sum : Links → Sort → ℕ
 one_wait_sum g Wires = how_many_below g.names (λ a. is_direct g (g.givers a))
 one_wait_sum g Iwires = how_many_below g.acts (λ n. g.begins n && is_some (g.entries n))

@@ -54,20 +54,20 @@ module _ (r : Parts) where
   abbrev pub givers : ℕ → List ℕ
   givers a = filter (λ y. is_in a (r.outs y)) (range_with_len 0 (pow r.levels))
 
-  abbrev pub begins_all : ℕ → Bool
-  begins_all y = r.opens && nat_eq y 0
+  abbrev pub begins_process : ℕ → Bool
+  begins_process y = r.opens && nat_eq y 0
 
   abbrev pub is_kept : Name → Bool
   is_kept Env = true
   is_kept Join = not (is_single r.burst)
   is_kept (Tog p) = nat_lt (depth p) r.levels
-  is_kept (Gate y) = begins_all y
+  is_kept (Gate y) = begins_process y
   is_kept (Spread y) = not (is_single (r.outs y))
   is_kept (Shows a) = not (is_single (givers a))
 
   -- the first wire of the path through a wire
   abbrev pub back_go : ℕ → Wire
-  back_go y = if begins_all y then Go y else To (entry y)
+  back_go y = if begins_process y then Go y else To (entry y)
 
   abbrev pub back_put : ℕ → ℕ → Wire
   back_put y a = if is_single (r.outs y) then back_go y else Put y a
@@ -90,7 +90,7 @@ module _ (r : Parts) where
 
   abbrev pub on : Wire → Wire
   on (Sym a) = if is_single r.burst then To Top else Sym a
-  on (To p) = if nat_eq (depth p) r.levels then (if begins_all (act_at p) then To p else on_go (act_at p)) else To p
+  on (To p) = if nat_eq (depth p) r.levels then (if begins_process (act_at p) then To p else on_go (act_at p)) else To p
   on (Go y) = on_go y
   on (Put y a) = on_put y a
   on (Out a) = Out a
