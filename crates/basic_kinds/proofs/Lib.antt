@@ -1,4 +1,5 @@
 pub mod Totals
+pub mod SumExamples
 pub mod Machines
 pub mod Items
 pub mod Turns

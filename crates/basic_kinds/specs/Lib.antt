@@ -3,3 +3,6 @@ pub mod Kinds
 pub mod KindTraces
 pub mod Totals
 pub mod KindCounts
+pub mod Sorts
+pub mod ShapeParts
+pub mod Sums
