@@ -13,5 +13,6 @@ pub mod Directions
 pub mod Granted
 pub mod Homes
 pub mod Outputs
+pub mod Sums
 pub mod Admitted
 pub mod Mirror

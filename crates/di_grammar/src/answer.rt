@@ -3,6 +3,8 @@ ghost use Rattle.std.specs.Prelude.{◌≡◌, ◌↔◌, ℕ, ◌+◌, ◌<◌,
 ghost use Rattle.cmd_tree.specs.declared.limits.TheConstants.{MAX_PLACES, MAX_PROCESSES, MAX_SYMBOLS};
 ghost use Rattle.cmd_tree.specs.declared.tree.Proc.{Proc};
 ghost use Rattle.cmd_tree.specs.Limits.{IsProc, places_of_all, places_of_proc, marks_of_all, marks_of_proc};
+ghost use Rattle.cmd_tree.specs.Meaning.{Trace};
+ghost use Rattle.process_laws.specs.Insensitive.{Insensitive};
 ghost use Rattle.di_grammar.specs.Admitted.{Admitted, Answer, Breaks, BreaksLocally, InProcess, number_of};
 ghost use Rattle.di_grammar.specs.Breaches.{FirstOf};
 ghost use Rattle.di_grammar.specs.Clashes.{First};
@@ -10,6 +12,7 @@ ghost use Rattle.di_grammar.specs.EvenBursts.{KeepsBursts};
 ghost use Rattle.di_grammar.specs.Grants.{IsGrant};
 ghost use Rattle.di_grammar.specs.Mirror.Answering.{AreFew, GrantsTold, EarlierKept};
 ghost use Rattle.di_grammar.specs.Mirror.Laid.{AreSmall};
+ghost use Rattle.di_grammar.specs.Outputs.{out_of};
 
 use crate::alternation::{one_way_neighbours, one_way_rounds};
 use crate::breach::Breach;
@@ -81,13 +84,15 @@ impl Rule {
 }
 
 /// Whether a command is admitted: `None` where it is, else the least rule that it breaks, in the least
-/// process and there at the least place.
+/// process and there at the least place. The traces of an admitted command keep the rules of
+/// delay-insensitivity.
 ///
 /// It takes no memory. Its time grows with the places of the command, but where a choice has first bursts that
 /// share a symbol, which is refused in any case.
 pub fn check(command: &Command) -> Option<Broken>
     ensures answer { Answer command.now.procs result }
     ensures none { result ≡ None ↔ Admitted command.now.procs }
+    ensures rules { result ≡ None → Insensitive (Trace command.now.procs) (out_of command.now.procs) }
 {
     first_broken(command.procs.as_slice())
 }

@@ -21,3 +21,4 @@ pub mod Chosen
 pub mod PointSteps
 pub mod Rests
 pub mod Walking
+pub mod SumExamples

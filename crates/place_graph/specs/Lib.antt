@@ -8,4 +8,5 @@ pub mod Apart
 pub mod Style
 pub mod StyleLegs
 pub mod Drawable
+pub mod Sums
 pub mod Mirror
