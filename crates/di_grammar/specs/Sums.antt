@@ -1,14 +1,13 @@
 -- The components of a weave: what leads the symbols to and from its processes, and what stands for its grants.
-use Rattle.std.specs.Prelude.{ℕ, Bool, true, false, not, ◌&&◌, nat_eq, if◌then◌else◌, List, [], ◌∷◌, ◌++◌, length, map, filter, Option, None, Some}
-use Rattle.std.specs.List.{list_any, range_with_len}
-use Rattle.cmd_tree.specs.declared.tree.Mark.{Mark}
+use Rattle.std.specs.Prelude.{ℕ, Bool, true, false, not, ◌&&◌, if◌then◌else◌, List, [], ◌∷◌, ◌++◌, length, map, Option, None, Some}
+use Rattle.std.specs.List.{range_with_len}
 use Rattle.cmd_tree.specs.declared.tree.Proc.{Proc}
 use Rattle.cmd_tree.specs.Tree.{TItem, TSeq, TSeqs, TBurst, TAlt, Stop, Or, Done, Then}
 use Rattle.cmd_tree.specs.Limits.{marks_of_proc}
 use Rattle.cmd_tree.specs.Lists.{is_in}
 use Rattle.cmd_tree.specs.Meaning.{has_symbol}
 use Rattle.cmd_tree.specs.Marks.{is_output}
-use Rattle.process_laws.specs.GrantForms.{Giving, granted_of, returned_of}
+use Rattle.process_laws.specs.GrantForms.{Giving, returned_of}
 use Rattle.basic_kinds.specs.Sorts.{Iwires, Forks, Joins, Merges, how_many}
 use Rattle.basic_kinds.specs.Sums.{Counted, One, Wide, Sequencer}
 use Rattle.di_grammar.specs.Outputs.{out_of}

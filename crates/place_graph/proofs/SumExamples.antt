@@ -1,5 +1,5 @@
 -- Sums that are known from elsewhere, by reckoning.
-use Rattle.std.specs.Prelude.{ℕ, ◌≡◌, refl, List, [], ◌∷◌, Option, Some, None}
+use Rattle.std.specs.Prelude.{ℕ, ◌≡◌, refl, List, [], ◌∷◌, Some, None}
 use Rattle.cmd_tree.specs.declared.tree.Mark.{Mark}
 use Rattle.cmd_tree.specs.declared.tree.Proc.{Proc}
 use Rattle.cmd_tree.specs.Tree.{TSeq, TBurst, Done, Then}

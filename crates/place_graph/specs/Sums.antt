@@ -1,7 +1,7 @@
 -- The components of one process, and of a command, as sums count them. They are read off the graph: no network is
 -- built.
-use Rattle.std.specs.Prelude.{ℕ, ◌+◌, ◌-◌, Bool, true, false, not, ◌&&◌, nat_eq, if◌then◌else◌, List, [], ◌∷◌, ◌++◌, length, map, filter, get_or, Option, Some, None}
-use Rattle.std.specs.List.{list_all, list_any, range_with_len}
+use Rattle.std.specs.Prelude.{ℕ, ◌+◌, ◌-◌, Bool, false, not, ◌&&◌, nat_eq, if◌then◌else◌, List, [], ◌∷◌, ◌++◌, length, map, filter, get_or, Option, Some, None}
+use Rattle.std.specs.List.{range_with_len}
 use Rattle.cmd_tree.specs.declared.tree.Sym.{Sym}
 use Rattle.cmd_tree.specs.declared.tree.Proc.{Proc}
 use Rattle.basic_kinds.specs.Sorts.{Sort, Wires, Iwires, Sources, Forks, Joins, Merges, Toggles, how_many}
@@ -9,70 +9,83 @@ use Rattle.basic_kinds.specs.ShapeParts.{part_at, part_names, part_rows, part_co
 use Rattle.basic_kinds.specs.Sums.{Counted, One, Wide, Wait, total_of}
 use Rattle.di_grammar.specs.Sums.{grants, woven}
 use Rattle.place_graph.specs.declared.wait_graph.WaitGraph.{WaitGraph}
-use Rattle.place_graph.specs.declared.wait_graph.Cross.{Cross}
-use Rattle.place_graph.specs.declared.wait_graph.Act.{Act}
 use Rattle.place_graph.specs.declared.wait_graph.Start.{Start}
 use Rattle.place_graph.specs.declared.wait_graph.Start.TheVariants as start
 use Rattle.place_graph.specs.declared.styles.SplitStyle.{SplitStyle}
 use Rattle.place_graph.specs.declared.styles.SplitStyle.TheVariants.{OneWait, Rounds, Token}
 use Rattle.place_graph.specs.Graph.{graph_of, has_sym}
-use Rattle.place_graph.specs.Style.{entries, is_exit, has_entry, style_of}
+use Rattle.place_graph.specs.Style.{is_exit, has_entry, style_of}
+
+-- the symbols of a burst, and the outputs of an act, by number
+abbrev pub symbols_at : WaitGraph → ℕ → List Sym
+symbols_at g b = get_or g.bursts b []
+
+abbrev pub outs_at : WaitGraph → ℕ → List Sym
+outs_at g n = get_or (map (λ y. y.outs) g.acts) n []
+
+-- the bursts that lead to an act, once for each crossing
+abbrev pub entries_of : WaitGraph → ℕ → List ℕ
+entries_of g n = map (λ c. c.burst) (filter (λ c. nat_eq c.act n) g.crosses)
+
+-- the acts that give a symbol
+abbrev pub givers : WaitGraph → ℕ → List ℕ
+givers g a = filter (λ n. has_sym (record { 0 = a }) (outs_at g n)) (range_with_len 0 (length g.acts))
+
+abbrev pub all_bursts : WaitGraph → List ℕ
+all_bursts g = range_with_len 0 (length g.bursts)
+
+abbrev pub all_acts : WaitGraph → List ℕ
+all_acts g = range_with_len 0 (length g.acts)
 
 -- ---- in every style
 
 -- a C for each burst
 abbrev pub joins : WaitGraph → List Counted
-joins g = map (λ b. Wide Joins (length b)) g.bursts
+joins g = map (λ b. Wide Joins (length (symbols_at g b))) (all_bursts g)
 
 -- a MERGE for each act, of its entries
 abbrev pub calls : WaitGraph → List Counted
-calls g = map (λ n. Wide Merges (entries n g.crosses)) (range_with_len 0 (length g.acts))
+calls g = map (λ n. Wide Merges (length (entries_of g n))) (all_acts g)
 
 -- a MERGE for each symbol, of the acts that give it
-abbrev pub acts_with : WaitGraph → ℕ → ℕ
-acts_with g a = how_many (λ y. has_sym (record { 0 = a }) y.outs) g.acts
-
 abbrev pub shows : WaitGraph → ℕ → List Counted
-shows g names = map (λ a. Wide Merges (acts_with g a)) (range_with_len 0 names)
+shows g names = map (λ a. Wide Merges (length (givers g a))) (range_with_len 0 names)
 
--- where the process begins: an IWIRE where something leads there, else a SOURCE
-abbrev pub begin_of : Bool → List Counted
-begin_of true = One Iwires ∷ []
-begin_of false = One Sources ∷ []
+abbrev pub begins_at : Start → ℕ → Bool
+begins_at (start.Wait w) n = false
+begins_at (start.Act m) n = nat_eq n m
 
-abbrev pub first_act : Start → WaitGraph → List Counted
-first_act (start.Wait w) g = []
-first_act (start.Act n) g = begin_of (has_entry g.start g.acts g.crosses)
+abbrev pub gate : List ℕ → Counted
+gate [] = One Sources
+gate (b ∷ bs) = One Iwires
+
+-- at the act where the process begins, an IWIRE where something leads there, else a SOURCE
+abbrev pub first_act : WaitGraph → List Counted
+first_act g = map (λ n. gate (entries_of g n)) (filter (begins_at g.start) (all_acts g))
 
 -- ---- with one wait, and in rounds
 
 -- a FORK for each act, to its outputs
 abbrev pub spreads : WaitGraph → List Counted
-spreads g = map (λ y. Wide Forks (length y.outs)) g.acts
+spreads g = map (λ n. Wide Forks (length (outs_at g n))) (all_acts g)
 
 -- ---- with one wait
 
-abbrev pub is_start : Start → ℕ → Bool
-is_start (start.Wait w) n = false
-is_start (start.Act m) n = nat_eq n m
+-- there is one, and it passes the test
+abbrev pub is_one : (ℕ → Bool) → List ℕ → Bool
+is_one test [] = false
+is_one test (x ∷ []) = test x
+is_one test (x ∷ y ∷ xs) = false
 
--- the bursts that lead to the act have one symbol each
-abbrev pub by_one_symbol : WaitGraph → ℕ → Bool
-by_one_symbol g n = list_all (λ c. nat_eq (length (get_or g.bursts c.burst [])) 1) (filter (λ c. nat_eq c.act n) g.crosses)
+-- The act leads one input straight to one output: it has one entry, whose burst has one symbol, it has one output, and
+-- the process does not begin there.
+abbrev pub is_straight : WaitGraph → ℕ → Bool
+is_straight g n = nat_eq (length (outs_at g n)) 1 && (not (begins_at g.start n)
+    && is_one (λ b. nat_eq (length (symbols_at g b)) 1) (entries_of g n))
 
--- The act leads one input straight to one output: its burst has one symbol, it has one entry, it is not the
--- start, it has one output, and no other act gives this symbol.
-abbrev pub is_straight : WaitGraph → ℕ → Act → Bool
-is_straight g n y = nat_eq (length y.outs) 1 && (not (is_start g.start n) && (nat_eq (entries n g.crosses) 1
-    && (by_one_symbol g n && list_all (λ a. nat_eq (acts_with g a.0) 1) y.outs)))
-
--- a WIRE for each direct path; n is the number of the first act
-abbrev pub directs_from : WaitGraph → ℕ → List Act → List Counted
-directs_from g n [] = []
-directs_from g n (y ∷ ys) = (if is_straight g n y then One Wires ∷ [] else []) ++ directs_from g (n + 1) ys
-
-abbrev pub directs : WaitGraph → List Counted
-directs g = directs_from g 0 g.acts
+-- a WIRE for each symbol that such an act gives and no other act
+abbrev pub directs : WaitGraph → ℕ → List Counted
+directs g names = map (λ a. One Wires) (filter (λ a. is_one (is_straight g) (givers g a)) (range_with_len 0 names))
 
 -- ---- with a token
 
@@ -91,9 +104,10 @@ leading g w = how_many (λ y. is_exit w y.exit) g.acts
 abbrev pub returns : WaitGraph → List Counted
 returns g = map (λ w. Wide Merges (leading g w)) (range_with_len 0 g.waits)
 
+-- where the process begins at a wait, an IWIRE where an act leads there, else a SOURCE
 abbrev pub first_wait : Start → WaitGraph → List Counted
 first_wait (start.Act n) g = []
-first_wait (start.Wait w) g = begin_of (has_entry g.start g.acts g.crosses)
+first_wait (start.Wait w) g = One (if has_entry g.start g.acts g.crosses then Iwires else Sources) ∷ []
 
 -- a DW for each connected part of the crossings; one of a single crossing is a C
 abbrev pub pairs : WaitGraph → List (ℕ × ℕ)
@@ -107,14 +121,14 @@ meetings g = map (λ i. meeting g (part_at g.waits (pairs g) i)) (part_names g.w
 
 -- ---- the sums
 
-abbrev pub of_style : SplitStyle → WaitGraph → List Counted
-of_style OneWait g = spreads g ++ directs g
-of_style (Rounds k) g = spreads g ++ map (λ i. One Toggles) (range_with_len 0 (k - 1))
-of_style Token g = moves g ++ (returns g ++ (first_wait g.start g ++ meetings g))
+abbrev pub of_style : SplitStyle → WaitGraph → ℕ → List Counted
+of_style OneWait g names = spreads g ++ directs g names
+of_style (Rounds k) g names = spreads g ++ map (λ i. One Toggles) (range_with_len 0 (k - 1))
+of_style Token g names = moves g ++ (returns g ++ (first_wait g.start g ++ meetings g))
 
 -- what is counted of a process with this graph, over so many symbols
 abbrev pub counted : WaitGraph → ℕ → List Counted
-counted g names = joins g ++ (calls g ++ (shows g names ++ (first_act g.start g ++ of_style (style_of g) g)))
+counted g names = joins g ++ (calls g ++ (shows g names ++ (first_act g ++ of_style (style_of g) g names)))
 
 abbrev pub processes : List Proc → ℕ → List Counted
 processes [] names = []
