@@ -13,6 +13,9 @@ pub mod OneWaitLong
 pub mod OneWaitWires
 pub mod SharedCommands
 pub mod OneWaitKinds
+pub mod SharedSums
+pub mod OneWaitWritten
+pub mod RoundsWritten
 pub mod SharedEntries
 pub mod OneWaitTabled
 pub mod OneWaitBuilt

@@ -36,6 +36,11 @@ use Rattle.place_graph.proofs.Listed.{in_points, index_one, point_at, one_map, m
 use Rattle.plain_split.specs.OneWait.{Links, links, lines, one_chart}
 use Rattle.plain_split.specs.OneWaitCommands.{HasOneWait, links_of, one_wait_net}
 use Rattle.plain_split.specs.Mirror.OneWaitTables.{LinkTables, links_by, tables_of, IsSmall}
+use Rattle.basic_kinds.specs.Sorts.{Sort}
+use Rattle.basic_kinds.specs.Sums.{wide_sum, total_of}
+use Rattle.place_graph.specs.Sums.{counted}
+use Rattle.plain_split.specs.OneWaitSums.{one_wait_sum}
+use Rattle.plain_split.proofs.OneWaitWritten.{written}
 use Rattle.plain_split.proofs.OneWaitTabled.{tables_right}
 use Rattle.plain_split.proofs.OneWaitWires.{lines_few, marks_places}
 use Rattle.plain_split.proofs.SharedEntries.{leg_comes, mark_legs}
@@ -121,10 +126,10 @@ module _ (out : ℕ → Bool) (p : Proc) (proc : IsProc p) (body : IsTrue (is_so
   abbrev g : Links
   g = links (graph_of p) names
 
-  is_drawn : Drawn (legs p) out g (burst_number (legs p)) (λ x. index_of x (act_points (legs p)))
+  pub is_drawn : Drawn (legs p) out g (burst_number (legs p)) (λ x. index_of x (act_points (legs p)))
   is_drawn = drawn (legs p) out one sets names (known_of p names known) (leg_comes p proc)
 
-  is_listed : Listed (legs p) out g (burst_number (legs p)) (λ x. index_of x (act_points (legs p)))
+  pub is_listed : Listed (legs p) out g (burst_number (legs p)) (λ x. index_of x (act_points (legs p)))
   is_listed = listed (legs p) out one sets names (known_of p names known) (leg_comes p proc)
 
   abbrev no : ℕ → ℕ
@@ -231,3 +236,11 @@ module _ (c : Command) (p : Proc) (h : HasOneWait c p) where
 
   pub tables_of_command : (t : LinkTables) (graph : WaitGraph) (names : ℕ) → t ≡ tables_of graph names → names ≡ length c.names → graph ≡ graph_of p → links_by t ≡ links_of c p
   tables_of_command t graph names e n g = ap links_by (e ∙ ap (tables_of graph) n ∙ ap (λ d. tables_of d (length c.names)) g) ∙ command_tables
+
+  -- ---- what is counted
+
+  pub command_counted : (t : Sort) → one_wait_sum (links_of c p) t ≡ total_of wide_sum (counted (graph_of p) (length c.names)) t
+  command_counted t = written (graph_of p) (length c.names) (legs p) directions (burst_number (legs p)) (λ x. index_of x (act_points (legs p))) h.style
+      (one directions p proc body h.fair h.directions h.sets h.style (length c.names) symbols_known)
+      (is_drawn directions p proc body h.fair h.directions h.sets h.style (length c.names) symbols_known)
+      (is_listed directions p proc body h.fair h.directions h.sets h.style (length c.names) symbols_known) t

@@ -1,5 +1,5 @@
 //! Laws of the networks of one process: each function here does nothing, and its contract is the law.
-ghost use Rattle.std.specs.Prelude.{◌↔◌, ◌≡◌, ℕ, ◌<◌, ◌^◌, Bool, IsTrue, is_some, List, [], ◌∷◌, map, drop};
+ghost use Rattle.std.specs.Prelude.{◌↔◌, ◌≡◌, ℕ, ◌<◌, ◌^◌, Bool, IsTrue, is_some, List, [], ◌∷◌, map, drop, length};
 ghost use Rattle.std.specs.List.{range_with_len};
 ghost use Rattle.cmd_tree.specs.declared.command.Command.{Command as Whole};
 ghost use Rattle.cmd_tree.specs.declared.tree.Proc.{Proc};
@@ -22,6 +22,8 @@ ghost use Rattle.net_laws.specs.Implementing.{Implements};
 ghost use Rattle.plain_split.specs.OneWait.{links, one_chart};
 ghost use Rattle.plain_split.specs.OneWaitCommands.{HasOneWait, links_of, one_wait_net};
 ghost use Rattle.plain_split.specs.OneWaitSums.{Sort, is_component, how_many, one_wait_sum};
+ghost use Rattle.basic_kinds.specs.Sums.{total_of, wide_sum};
+ghost use Rattle.place_graph.specs.Sums.{counted};
 ghost use Rattle.plain_split.specs.RoundsNet.{pow};
 ghost use Rattle.plain_split.specs.RoundsChart.{rounds_chart};
 ghost use Rattle.plain_split.specs.RoundsParts.{parts_of, Specifies};
@@ -40,6 +42,8 @@ pub fn one_wait_law()
     ensures command { (c : Whole) (p : Proc) → HasOneWait c p → Implements (one_wait_net c p) (Cmd c) }
     ensures wires { (c : Whole) (p : Proc) → HasOneWait c p → (one_wait_net c p).wires < 2 ^ 20 }
     ensures kinds { (c : Whole) (p : Proc) (k : Sort) → how_many (λ (x : Node). is_component k x.spec) (drop 1 (one_wait_net c p).nodes) ≡ one_wait_sum (links_of c p) k }
+    ensures counted { (c : Whole) (p : Proc) → HasOneWait c p → (k : Sort)
+        → how_many (λ (x : Node). is_component k x.spec) (drop 1 (one_wait_net c p).nodes) ≡ total_of wide_sum (counted (graph_of p) (length c.names)) k }
 {}
 
 /// Where one burst is taken at each of 2^e waits in turn, a tree of TOGGLEs, which gives each round to

@@ -1,5 +1,6 @@
+use Rattle.std.proofs.Common.{◌∙◌}
 use Rattle.plain_split.proofs.SharedAdmitted.{alone_fair, alone_directions, alone_sets}
-use Rattle.plain_split.proofs.OneWaitLaw.{one_wait_right, one_command_right, one_command_wires}
+use Rattle.plain_split.proofs.OneWaitLaw.{one_wait_right, one_command_right, one_command_wires, command_counted}
 use Rattle.plain_split.proofs.OneWaitKinds.{one_wait_kinds}
 use Rattle.net_core.specs.declared.spec.NodeSpec.TheVariants.{Cmd}
 use Rattle.plain_split.specs.OneWaitCommands.{links_of}
@@ -25,3 +26,6 @@ returns-clause-wires c = one_command_wires
 
 pub returns-clause-kinds : goal.returns-clause-kinds
 returns-clause-kinds c = λ d p k. one_wait_kinds (Cmd d) (links_of d p) k
+
+pub returns-clause-counted : goal.returns-clause-counted
+returns-clause-counted c = λ d p h k. one_wait_kinds (Cmd d) (links_of d p) k ∙ command_counted d p h k

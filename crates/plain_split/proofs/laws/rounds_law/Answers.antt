@@ -1,3 +1,4 @@
+use Rattle.plain_split.proofs.RoundsWritten.{rounds_written, start_low}
 use Rattle.plain_split.specs.RoundsCommands.{round_parts}
 use Rattle.plain_split.proofs.RoundsLaw.{rounds_hold}
 use Rattle.plain_split.proofs.RoundsCommand.{rounds_command_right, rounds_command_wires}
