@@ -40,3 +40,11 @@ pub mod RoundsCommand
 pub mod RoundsKinds
 pub mod RoundsWires
 pub mod RoundsExamples
+pub mod RoundsReady
+pub mod RoundsGiven
+pub mod RoundsBlocks
+pub mod RoundsSteps
+pub mod RoundsBuilt
+pub mod RoundsTabled
+pub mod RoundsRead
+pub mod RoundsTied

@@ -27,7 +27,8 @@ use Rattle.plain_split.proofs.OneWaitLaw.{known_of, trace_empty, trace_front}
 use Rattle.plain_split.proofs.OneWaitWires.{marks_places}
 use Rattle.plain_split.proofs.RoundsStyle.{long as ring_long}
 use Rattle.plain_split.proofs.RoundsWires.{outs_few, wires_few}
-use Rattle.plain_split.proofs.RoundsLaw.{rounds_right_for}
+use Rattle.plain_split.proofs.RoundsLaw.{rounds_right_for, rounds_ready_for}
+use Rattle.plain_split.specs.Mirror.RoundsTables.{IsRoundGraph}
 
 style_rounds : (g : WaitGraph) (k : ℕ) → style_of g ≡ Rounds k → (nat_eq g.waits 1 ≡ false) × (in_rounds g ≡ true) × (g.waits ≡ k)
 style_rounds g k e = by (nat_eq g.waits 1) refl (in_rounds g) refl e
@@ -75,14 +76,14 @@ module _ (c : Command) (p : Proc) (e : ℕ) (h : HasRounds c p e) where
     covers = λ a low. (known_of p (length c.names) symbols_known a).0 (omega (arith, long));
   }
 
+  some_levels : (n : ℕ) → nat_eq (graph_of p).waits 1 ≡ false → (graph_of p).waits ≡ pow n → 0 < n
+  some_levels zero x m = absurd (true≢false (sym (eq-eqb (graph_of p).waits 1 m) ∙ x))
+  some_levels (suc n) x m = omega arith
+
   pub rounds_command_right : Implements (rounds_net c p e) (Cmd c)
   rounds_command_right =
       let (not_one, rounds, many) = style_rounds (graph_of p) (pow e) h.style in
-      rounds_right_for (Cmd c) directions p e proc places h.sets h.fair h.directions rounds many (levels e not_one many) told
-    where
-      levels : (n : ℕ) → nat_eq (graph_of p).waits 1 ≡ false → (graph_of p).waits ≡ pow n → 0 < n
-      levels zero x m = absurd (true≢false (sym (eq-eqb (graph_of p).waits 1 m) ∙ x))
-      levels (suc n) x m = omega arith
+      rounds_right_for (Cmd c) directions p e proc places h.sets h.fair h.directions rounds many (some_levels e not_one many) told
 
   pub rounds_command_wires : (rounds_net c p e).wires < 2 ^ 20
   rounds_command_wires =
@@ -98,3 +99,8 @@ module _ (c : Command) (p : Proc) (e : ℕ) (h : HasRounds c p e) where
         long,
         c.valid.few_symbols,
       )
+
+  pub rounds_command_ready : IsRoundGraph (Cmd c) (graph_of p) e
+  rounds_command_ready =
+      let (not_one, rounds, many) = style_rounds (graph_of p) (pow e) h.style in
+      rounds_ready_for (Cmd c) directions p e proc places h.sets h.fair h.directions rounds many (some_levels e not_one many) told rounds_command_wires

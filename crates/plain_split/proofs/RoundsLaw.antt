@@ -1,20 +1,20 @@
 -- The law of rounds, for a fair process.
 use Rattle.std.specs.Prelude.{IsTrue}
-use Rattle.std.proofs.Common.{◌≡◌, ℕ, ◌+◌, ◌<◌, ◌≤◌, Bool, length, Option, None, Some, ⊎_elim, refl, ap, arith}
+use Rattle.std.proofs.Common.{◌≡◌, ℕ, ◌+◌, ◌<◌, ◌≤◌, ◌^◌, ◌∙◌, Bool, length, Option, None, Some, ⊎_elim, refl, ap, arith}
 use Rattle.std.proofs.lemmas.List.{length-map}
 use Rattle.cmd_tree.specs.declared.tree.Proc.{Proc}
 use Rattle.cmd_tree.specs.Tree.{TItem, TSeq, TSeqs, TBurst, TAlt, Stop, Or, Done, Then, places_of, places_in, places_among}
 use Rattle.cmd_tree.specs.Limits.{of_part, places_of_proc, IsProc}
 use Rattle.cmd_tree.specs.declared.limits.TheConstants.{MAX_PLACES}
 use Rattle.cmd_tree.specs.Residual.{lead_of}
-use Rattle.cmd_tree.specs.Meaning.{TraceOf}
+use Rattle.cmd_tree.specs.Meaning.{TraceOf, symbols}
 use Rattle.net_core.specs.declared.spec.NodeSpec.{NodeSpec}
 use Rattle.net_laws.specs.Charts.{charted}
 use Rattle.net_laws.specs.Implementing.{Implements}
 use Rattle.process_laws.specs.Shape.{IsFair}
 use Rattle.place_graph.specs.declared.leg.Leg.{Leg}
 use Rattle.place_graph.specs.Points.{point, legs_of, legs_in, legs_among, body_place, turn_point, legs, Among}
-use Rattle.place_graph.specs.Graph.{graph_of, home_number}
+use Rattle.place_graph.specs.Graph.{graph_of, acts_of, act, home_number}
 use Rattle.place_graph.specs.Style.{in_rounds}
 use Rattle.place_graph.specs.Drawable.{IsDrawable, AreDirections, AreSets}
 use Rattle.place_graph.proofs.Joined.{among_append}
@@ -23,10 +23,11 @@ use Rattle.place_graph.proofs.Listed.{homes_known}
 use Rattle.place_graph.proofs.Charted.{charted as charts}
 use Rattle.place_graph.proofs.Played.{played}
 use Rattle.plain_split.specs.RoundsNet.{pow}
-use Rattle.plain_split.specs.RoundsChart.{rounds_chart}
+use Rattle.plain_split.specs.RoundsChart.{rounds_chart, lines}
 use Rattle.plain_split.specs.RoundsParts.{parts_of, Specifies}
 use Rattle.plain_split.proofs.RoundsStyle.{long}
-use Rattle.plain_split.proofs.RoundsProcess.{process_right}
+use Rattle.plain_split.proofs.RoundsProcess.{process_right, acts_are, process_ready}
+use Rattle.plain_split.specs.Mirror.RoundsTables.{IsRoundGraph}
 
 -- a leg has no more marks than the tree has places
 mutual
@@ -70,3 +71,19 @@ rounds_right_for s out p e proc places sets fair directions rounds many some tol
 pub rounds_hold : (s : NodeSpec) (out : ℕ → Bool) (p : Proc) (e : ℕ) → IsDrawable p → IsFair out p → AreDirections out p → IsTrue (in_rounds (graph_of p)) → (graph_of p).waits ≡ pow e → 0 < e
     → Specifies s out (legs p) (TraceOf p) → Implements (charted (rounds_chart (parts_of s (graph_of p) e))) s
 rounds_hold s out p e drawable = rounds_right_for s out p e drawable.proc drawable.few_places drawable.sets
+
+-- what the code relies on
+pub rounds_ready_for : (s : NodeSpec) (out : ℕ → Bool) (p : Proc) (e : ℕ) → IsProc p → places_of_proc p ≤ MAX_PLACES → AreSets (legs p) → IsFair out p → AreDirections out p
+    → IsTrue (in_rounds (graph_of p)) → (graph_of p).waits ≡ pow e → 0 < e → Specifies s out (legs p) (TraceOf p) → length (lines (parts_of s (graph_of p) e)) < 2 ^ 20 → IsRoundGraph s (graph_of p) e
+rounds_ready_for s out p e proc places sets fair directions rounds many some told few =
+    let chart = charts out p proc fair directions in
+    let homes = homes_known (legs p) sets in
+    let narrow : (l : Leg) → Among (legs p) l → length (symbols l.marks) < 2 ^ 27 = λ l a. omega (arith, length-map l.marks (λ m. m.sym.0), marks_few p l a, places) in
+    let acts_few : pow e < 2 ^ 27 = omega (arith, long out p proc chart (home_number (legs p)) homes rounds e many, legs_few p proc, places) in
+    let acts : length (acts_of (legs p)) ≡ pow e =
+    acts_are s out p (TraceOf p) proc chart (played out p proc fair directions) (home_number (legs p)) homes rounds e many some told narrow acts_few in
+    record {
+      waits = many;
+      acts = length-map (acts_of (legs p)) (act (legs p)) ∙ acts;
+      ready = process_ready s out p (TraceOf p) proc chart (played out p proc fair directions) (home_number (legs p)) homes rounds e many some told narrow acts_few few;
+    }

@@ -32,7 +32,7 @@ pub range_once : (k : ℕ) → Distinct (range_with_len 0 k)
 range_once k = range_from 0 k
 
 -- the kind of a wire, and of a node
-abbrev tag : Wire → ℕ
+abbrev pub tag : Wire → ℕ
 tag (Sym a) = 0
 tag (To Top) = 1
 tag (To (Odd p)) = 2
@@ -64,10 +64,10 @@ out_from (Put y a) e = absurd (true≢false e)
 out_from (Out a) e = (a, refl)
 
 module _ (r : Parts) (T : List ℕ → Type 0) (fine : Fine r T) (sane : Sane (plan_of r T)) where
-  abbrev G : Wire → Type 0
+  abbrev pub G : Wire → Type 0
   G w = Here r T fine sane w
 
-  abbrev K : Name → Type 0
+  abbrev pub K : Name → Type 0
   K n = is_kept r n ≡ true
 
   -- ---- from the first wire to the last one
@@ -187,10 +187,10 @@ module _ (r : Parts) (T : List ℕ → Type 0) (fine : Fine r T) (sane : Sane (p
 
   -- ---- the wires that begin inside
 
-  record Inside (w : Wire) : Type 0 where
-    there : G w
-    kept : K (driver w)
-    apart : tag w ≡ 0 → ⊥
+  pub record Inside (w : Wire) : Type 0 where
+    pub there : G w
+    pub kept : K (driver w)
+    pub apart : tag w ≡ 0 → ⊥
 
   place_driven : (p : Path) → 0 < depth p → depth p ≤ r.levels → K (driver (To p))
   place_driven Top a b = absurd (omega arith)
@@ -255,7 +255,7 @@ module _ (r : Parts) (T : List ℕ → Type 0) (fine : Fine r T) (sane : Sane (p
       let (y, low, e, (a, i, is)) = put_is w h in
       subst Inside (sym is) (record { there = (low, among_in a (r.outs y) i); kept = ap not e; apart = λ z. omega arith })
 
-  inside_is : (w : Wire) → Among w (inner_wires r) → Inside w
+  pub inside_is : (w : Wire) → Among w (inner_wires r) → Inside w
   inside_is w h = elim (among_either w (top_block (is_single r.burst)) (block2 ++ (go_block r.opens ++ block4)) h) [
     | inl a ↦ top_inside w a
     | inr b ↦ elim (among_either w block2 (go_block r.opens ++ block4) b) [

@@ -25,7 +25,7 @@ use Rattle.place_graph.proofs.Listed.{in_points, points_in, one_filter}
 use Rattle.place_graph.proofs.Charted.{start_leg}
 use Rattle.place_graph.proofs.Sums.{one_same, times_from_in}
 use Rattle.plain_split.specs.RoundsNet.{pow}
-use Rattle.plain_split.specs.RoundsChart.{Parts, is_out, rounds_chart}
+use Rattle.plain_split.specs.RoundsChart.{Parts, is_out, lines, rounds_chart}
 use Rattle.plain_split.specs.RoundsParts.{numbers, begins_with_act, first_burst, outs_at, parts_of, Specifies}
 use Rattle.plain_split.proofs.RoundsPlan.{Plan, Sane}
 use Rattle.plain_split.proofs.RoundsWeb.{web}
@@ -37,6 +37,8 @@ use Rattle.plain_split.proofs.RoundsLegs.{rem_small, ring_by}
 use Rattle.plain_split.proofs.RoundsStyle.{Alternate, turns, inputs_long, long, ring}
 use Rattle.plain_split.proofs.RoundsRoutes.{Fine, plan_of, among_in}
 use Rattle.plain_split.proofs.RoundsRight.{rounds_right}
+use Rattle.plain_split.proofs.RoundsReady.{ready}
+use Rattle.plain_split.specs.Mirror.RoundsTables.{IsReady}
 
 -- ---- lists of legs that take turns
 
@@ -175,7 +177,7 @@ module _ (s : NodeSpec) (out : ℕ → Bool) (p : Proc) (T : List ℕ → Type 0
       ∙ sym (leg_small (bit (is_act (R.leg 0))) (omega (arith, pow_some e, bit_low (is_act (R.leg 0))))) in
       ap numbers (burst_first (inputs_of L) d (omega (arith, pow_some e))) ∙ numbers_syms (get_or (inputs_of L) 0 d).marks ∙ ap (λ (l : Leg). symbols l.marks) z
 
-  acts_are : length (acts_of (legs p)) ≡ pow e
+  pub acts_are : length (acts_of (legs p)) ≡ pow e
   acts_are = omega (arith, acts_long (is_act d) (is_act d) L alternates, inputs_long out p h chart home homes rounds e many, long out p h chart home homes rounds e many)
 
   act_at : (y : ℕ) → y < pow e → get_or (acts_of (legs p)) y d ≡ R.leg (y + y + (1 - bit (is_act (R.leg 0))))
@@ -300,3 +302,6 @@ module _ (s : NodeSpec) (out : ℕ → Bool) (p : Proc) (T : List ℕ → Type 0
 
   pub process_right : Implements (charted (rounds_chart (parts_of s (graph_of p) e))) s
   process_right = rounds_right (parts_of s (graph_of p) e) T fine sane_is sound_is exact_is
+
+  pub process_ready : length (lines (parts_of s (graph_of p) e)) < 2 ^ 20 → IsReady (parts_of s (graph_of p) e)
+  process_ready few = ready (parts_of s (graph_of p) e) T fine sane_is few

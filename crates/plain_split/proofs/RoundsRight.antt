@@ -27,21 +27,21 @@ use Rattle.plain_split.proofs.RoundsRoutes.{Fine, plan_of, in_among, among_in, s
 use Rattle.plain_split.proofs.RoundsLines.{range_low, range_once, label, outer_at, outer_there, sym_outer, out_outer, outer_once, on_back, line_is, line_in, lines_once}
 use Rattle.plain_split.proofs.RoundsMay.{nothing, join_once, join_may, spread_once, spread_may, tog_once, tog_may, gate_once, gate_may, shows_once, shows_may, env_may}
 
-same_one : (v w : Wire) → same v w ≡ true → v ≡ w
+pub same_one : (v w : Wire) → same v w ≡ true → v ≡ w
 same_one v w h = at (wire_discrete ℕ_discrete path_discrete v w) h
   where
     at : (x : Dec (v ≡ w)) → (elim x [ yes p ↦ true | no h ↦ false ]) ≡ true → v ≡ w
     at (yes p) e = p
     at (no q) e = absurd (true≢false (sym e))
 
-same_self : (v : Wire) → same v v ≡ true
+pub same_self : (v : Wire) → same v v ≡ true
 same_self v = at (wire_discrete ℕ_discrete path_discrete v v)
   where
     at : (x : Dec (v ≡ v)) → (elim x [ yes p ↦ true | no h ↦ false ]) ≡ true
     at (yes p) = refl
     at (no q) = absurd (q refl)
 
-map_same : {A B : Type 0} (f h : A → B) (xs : List A) → ((x : A) → Among x xs → f x ≡ h x) → map f xs ≡ map h xs
+pub map_same : {A B : Type 0} (f h : A → B) (xs : List A) → ((x : A) → Among x xs → f x ≡ h x) → map f xs ≡ map h xs
 map_same f h [] e = refl
 map_same f h (x ∷ xs) e = ap (λ y. y ∷ map f xs) (e x (inl refl)) ∙ ap (λ ys. h x ∷ ys) (map_same f h xs (λ y a. e y (inr a)))
 
