@@ -1,5 +1,5 @@
 -- A command of one process in rounds is implemented by its chart.
-use Rattle.std.proofs.Common.{◌≡◌, ◌↔◌, ℕ, zero, suc, ◌<◌, ◌≤◌, ◌^◌, Bool, true, false, true≢false, nat_eq, IsTrue, List, [], ◌∷◌, ◌++◌, length, refl, sym, ap, ◌∙◌, subst, arith, append-nil, eq-eqb, if◌then◌else◌}
+use Rattle.std.proofs.Common.{◌≡◌, ◌↔◌, ℕ, zero, suc, ◌<◌, ◌≤◌, ◌^◌, Bool, true, false, true≢false, nat_eq, IsTrue, List, [], ◌∷◌, ◌++◌, length, refl, sym, ap, ◌∙◌, subst, arith, append-nil, eq-eqb, eqb-true, if◌then◌else◌}
 use Rattle.std.specs.List.{AllByRecursion}
 use Rattle.std.proofs.lemmas.List.FromFn.{length-map-range_with_len, get_or-map-range_with_len}
 use Rattle.cmd_tree.specs.declared.tree.Proc.{Proc}
@@ -14,7 +14,7 @@ use Rattle.place_graph.specs.declared.wait_graph.WaitGraph.{WaitGraph}
 use Rattle.place_graph.specs.declared.styles.SplitStyle.TheVariants.{OneWait, Rounds, Token}
 use Rattle.place_graph.specs.Points.{legs}
 use Rattle.place_graph.specs.Graph.{graph_of, home_number}
-use Rattle.place_graph.specs.Style.{in_rounds, style_of}
+use Rattle.place_graph.specs.Style.{in_rounds, style_of, one_entry_each, has_entry}
 use Rattle.place_graph.proofs.LegBounds.{legs_few}
 use Rattle.place_graph.proofs.Listed.{homes_known}
 use Rattle.place_graph.proofs.Charted.{charted as charts}
@@ -27,7 +27,16 @@ use Rattle.plain_split.proofs.OneWaitLaw.{known_of, trace_empty, trace_front}
 use Rattle.plain_split.proofs.OneWaitWires.{marks_places}
 use Rattle.plain_split.proofs.RoundsStyle.{long as ring_long}
 use Rattle.plain_split.proofs.RoundsWires.{outs_few, wires_few}
-use Rattle.plain_split.proofs.RoundsLaw.{rounds_right_for, rounds_ready_for}
+use Rattle.std.specs.Prelude.{◌&&◌}
+use Rattle.std.specs.Int.{is_power_of_two}
+use Rattle.basic_kinds.specs.Sorts.{Sort}
+use Rattle.basic_kinds.specs.Sums.{wide_sum, total_of}
+use Rattle.place_graph.specs.Sums.{counted}
+use Rattle.plain_split.specs.RoundsParts.{parts_of}
+use Rattle.plain_split.specs.RoundsCommands.{rounds_sum}
+use Rattle.plain_split.proofs.RoundsRoutes.{Fine}
+use Rattle.plain_split.proofs.RoundsWritten.{rounds_written, start_low}
+use Rattle.plain_split.proofs.RoundsLaw.{rounds_right_for, rounds_ready_for, rounds_fine_for}
 use Rattle.plain_split.specs.Mirror.RoundsTables.{IsRoundGraph}
 
 style_rounds : (g : WaitGraph) (k : ℕ) → style_of g ≡ Rounds k → (nat_eq g.waits 1 ≡ false) × (in_rounds g ≡ true) × (g.waits ≡ k)
@@ -38,6 +47,20 @@ style_rounds g k e = by (nat_eq g.waits 1) refl (in_rounds g) refl e
     by true x c z y = absurd (cc)
     by false x true z y = (x, z, cc)
     by false x false z y = absurd (cc)
+
+both : (a b : Bool) → (a && b) ≡ true → (a ≡ true) × (b ≡ true)
+both true b h = (refl, h)
+both false b h = absurd (true≢false (sym h))
+
+five : (a b c d e : Bool) → (a && b && c && d && e) ≡ true → (a ≡ true) × (d ≡ true)
+five a b c d e h =
+    let most = (both (a && b && c && d) e h).0 in
+    let fewer = both (a && b && c) d most in
+    ((both a b (both (a && b) c fewer.0).0).0, fewer.1)
+
+-- a graph in rounds has one burst, and each act one entry
+round_facts : (g : WaitGraph) → in_rounds g ≡ true → (nat_eq (length g.bursts) 1 ≡ true) × (one_entry_each (length g.acts) g.crosses ≡ true)
+round_facts g h = five (nat_eq (length g.bursts) 1) (is_power_of_two g.waits) (nat_eq (length g.crosses) g.waits) (one_entry_each (length g.acts) g.crosses) (has_entry g.start g.acts g.crosses) h
 
 module _ (c : Command) (p : Proc) (e : ℕ) (h : HasRounds c p e) where
   abbrev directions : ℕ → Bool
@@ -104,3 +127,23 @@ module _ (c : Command) (p : Proc) (e : ℕ) (h : HasRounds c p e) where
   rounds_command_ready =
       let (not_one, rounds, many) = style_rounds (graph_of p) (pow e) h.style in
       rounds_ready_for (Cmd c) directions p e proc places h.sets h.fair h.directions rounds many (some_levels e not_one many) told rounds_command_wires
+
+  -- ---- what is counted
+
+  pub rounds_command_counted : (t : Sort) → rounds_sum (round_parts c p e) t ≡ total_of wide_sum (counted (graph_of p) (length c.names)) t
+  rounds_command_counted t =
+      let (not_one, rounds, many) = style_rounds (graph_of p) (pow e) h.style in
+      let fine : Fine (parts_of (Cmd c) (graph_of p) e) (TraceOf p) =
+      rounds_fine_for (Cmd c) directions p e proc places h.sets h.fair h.directions rounds many (some_levels e not_one many) told in
+      rounds_written (Cmd c) (graph_of p) e (length c.names) (record {
+        style = h.style;
+        one_burst = eqb-true (length (graph_of p).bursts) 1 (round_facts (graph_of p) rounds).0;
+        acts = rounds_command_ready.acts;
+        one_entry = (round_facts (graph_of p) rounds).1;
+        start_low = start_low (legs p);
+        names_long = long;
+        burst_some = fine.burst_some;
+        outs_some = fine.outs_some;
+        outs_in = λ y a low i. (fine.outs_in y a low i).1;
+        covers_out = λ a low out. fine.covers_out a (omega (arith, low, long)) out;
+      }) t

@@ -26,7 +26,8 @@ use Rattle.plain_split.specs.RoundsNet.{pow}
 use Rattle.plain_split.specs.RoundsChart.{rounds_chart, lines}
 use Rattle.plain_split.specs.RoundsParts.{parts_of, Specifies}
 use Rattle.plain_split.proofs.RoundsStyle.{long}
-use Rattle.plain_split.proofs.RoundsProcess.{process_right, acts_are, process_ready}
+use Rattle.plain_split.proofs.RoundsProcess.{process_right, acts_are, process_ready, fine}
+use Rattle.plain_split.proofs.RoundsRoutes.{Fine}
 use Rattle.plain_split.specs.Mirror.RoundsTables.{IsRoundGraph}
 
 -- a leg has no more marks than the tree has places
@@ -71,6 +72,16 @@ rounds_right_for s out p e proc places sets fair directions rounds many some tol
 pub rounds_hold : (s : NodeSpec) (out : ℕ → Bool) (p : Proc) (e : ℕ) → IsDrawable p → IsFair out p → AreDirections out p → IsTrue (in_rounds (graph_of p)) → (graph_of p).waits ≡ pow e → 0 < e
     → Specifies s out (legs p) (TraceOf p) → Implements (charted (rounds_chart (parts_of s (graph_of p) e))) s
 rounds_hold s out p e drawable = rounds_right_for s out p e drawable.proc drawable.few_places drawable.sets
+
+-- what the parts have of the legs
+pub rounds_fine_for : (s : NodeSpec) (out : ℕ → Bool) (p : Proc) (e : ℕ) → IsProc p → places_of_proc p ≤ MAX_PLACES → AreSets (legs p) → IsFair out p → AreDirections out p
+    → IsTrue (in_rounds (graph_of p)) → (graph_of p).waits ≡ pow e → 0 < e → Specifies s out (legs p) (TraceOf p) → Fine (parts_of s (graph_of p) e) (TraceOf p)
+rounds_fine_for s out p e proc places sets fair directions rounds many some told =
+    let chart = charts out p proc fair directions in
+    let homes = homes_known (legs p) sets in
+    fine s out p (TraceOf p) proc chart (played out p proc fair directions) (home_number (legs p)) homes rounds e many some told
+    (λ l a. omega (arith, length-map l.marks (λ m. m.sym.0), marks_few p l a, places))
+    (omega (arith, long out p proc chart (home_number (legs p)) homes rounds e many, legs_few p proc, places))
 
 -- what the code relies on
 pub rounds_ready_for : (s : NodeSpec) (out : ℕ → Bool) (p : Proc) (e : ℕ) → IsProc p → places_of_proc p ≤ MAX_PLACES → AreSets (legs p) → IsFair out p → AreDirections out p

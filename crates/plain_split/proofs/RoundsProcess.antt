@@ -266,7 +266,7 @@ module _ (s : NodeSpec) (out : ℕ → Bool) (p : Proc) (T : List ℕ → Type 0
       let less : y < pow e = omega (arith, acts_are) in
       (y, less, sym at ∙ act_at y less)
 
-  fine : Fine (parts_of s (graph_of p) e) T
+  pub fine : Fine (parts_of s (graph_of p) e) T
   fine = record {
     some_levels = some_levels;
     burst_some = subst (λ (xs : List ℕ). 0 < length xs) (sym burst_as) (symbols_some burst_leg.marks (chart.some burst_leg (R.among (bit (is_act (R.leg 0))))));

@@ -56,4 +56,6 @@ pub fn rounds_law()
     ensures command { (c : Whole) (p : Proc) (e : ℕ) → HasRounds c p e → Implements (rounds_net c p e) (Cmd c) }
     ensures wires { (c : Whole) (p : Proc) (e : ℕ) → HasRounds c p e → (rounds_net c p e).wires < 2 ^ 20 }
     ensures kinds { (c : Whole) (p : Proc) (e : ℕ) (k : Sort) → how_many (λ (x : Node). is_component k x.spec) (drop 1 (rounds_net c p e).nodes) ≡ rounds_sum (round_parts c p e) k }
+    ensures counted { (c : Whole) (p : Proc) (e : ℕ) → HasRounds c p e → (k : Sort)
+        → how_many (λ (x : Node). is_component k x.spec) (drop 1 (rounds_net c p e).nodes) ≡ total_of wide_sum (counted (graph_of p) (length c.names)) k }
 {}

@@ -1,7 +1,7 @@
-use Rattle.plain_split.proofs.RoundsWritten.{rounds_written, start_low}
+use Rattle.std.proofs.Common.{◌∙◌}
 use Rattle.plain_split.specs.RoundsCommands.{round_parts}
 use Rattle.plain_split.proofs.RoundsLaw.{rounds_hold}
-use Rattle.plain_split.proofs.RoundsCommand.{rounds_command_right, rounds_command_wires}
+use Rattle.plain_split.proofs.RoundsCommand.{rounds_command_right, rounds_command_wires, rounds_command_counted}
 use Rattle.plain_split.proofs.RoundsKinds.{rounds_kinds}
 use Rattle.plain_split.proofs.laws.rounds_law.Goals as goal
 
@@ -16,3 +16,6 @@ returns-clause-wires c = rounds_command_wires
 
 pub returns-clause-kinds : goal.returns-clause-kinds
 returns-clause-kinds c = λ b p e k. rounds_kinds (round_parts b p e) k
+
+pub returns-clause-counted : goal.returns-clause-counted
+returns-clause-counted c = λ d p e h k. rounds_kinds (round_parts d p e) k ∙ rounds_command_counted d p e h k
