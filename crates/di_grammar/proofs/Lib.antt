@@ -17,6 +17,7 @@ pub mod FairnessApart
 pub mod Fairness
 pub mod FairnessGrants
 pub mod FairnessLaws
+pub mod SumGrants
 pub mod BurstSymbols
 pub mod OverlapSteps
 pub mod Answering

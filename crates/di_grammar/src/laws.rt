@@ -1,5 +1,5 @@
 //! Laws of admitted commands: each function here does nothing, and its contract is the law.
-ghost use Rattle.std.specs.Prelude.{◌≡◌, ℕ, true, false, List};
+ghost use Rattle.std.specs.Prelude.{◌≡◌, ◌↔◌, ℕ, true, false, List};
 ghost use Rattle.std.specs.List.{AllByRecursion};
 ghost use Rattle.cmd_tree.specs.declared.tree.Proc.{Proc};
 ghost use Rattle.cmd_tree.specs.Limits.{IsProc};
@@ -13,6 +13,7 @@ ghost use Rattle.di_grammar.specs.Admitted.{Admitted};
 ghost use Rattle.di_grammar.specs.Grants.{Gift, GrantsPlainly, GrantsWithRelease, IsGrant};
 ghost use Rattle.di_grammar.specs.Lists.{Each};
 ghost use Rattle.di_grammar.specs.Outputs.{out_of};
+ghost use Rattle.di_grammar.specs.Sums.{grants};
 
 /// In an admitted command each process that is no grant has steady traces. All processes, grants too, take
 /// turns of inputs and outputs, and keep the rules of delay-insensitivity.
@@ -43,4 +44,9 @@ pub fn grants_law()
 /// The traces of an admitted command keep the rules of delay-insensitivity.
 pub fn weave_law()
     ensures { (ps : List Proc) → AllByRecursion IsProc ps → Admitted ps → Insensitive (Trace ps) (out_of ps) }
+{}
+
+/// The sums take exactly the grants for grants.
+pub fn sums_law()
+    ensures { (p : Proc) → (grants p ≡ true ↔ IsGrant p) }
 {}

@@ -20,5 +20,5 @@ mod symbols;
 mod twins;
 
 pub use answer::{Broken, check};
-pub use laws::{grants_law, processes_law, weave_law};
+pub use laws::{grants_law, processes_law, sums_law, weave_law};
 pub use rule_laws::{answers_law, rules_law};
