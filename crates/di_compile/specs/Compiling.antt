@@ -1,0 +1,58 @@
+-- Which commands are compiled, and what is promised of their networks.
+use Rattle.std.specs.Prelude.{◌≡◌, ℕ, ◌<◌, ◌^◌, List, [], ◌∷◌, drop, length, ⊤, Some}
+use Rattle.cmd_tree.specs.declared.tree.Proc.{Proc}
+use Rattle.cmd_tree.specs.declared.command.Command.{Command}
+use Rattle.basic_kinds.specs.Sorts.{Sort, how_many}
+use Rattle.basic_kinds.specs.Sums.{wide_sum}
+use Rattle.di_grammar.specs.Admitted.{Admitted, IsBroken}
+use Rattle.place_graph.specs.Graph.{graph_of}
+use Rattle.place_graph.specs.Style.{style_of}
+use Rattle.place_graph.specs.Sums.{command_sum}
+use Rattle.plain_split.specs.PlainNet.{IsPlain}
+use Rattle.plain_split.specs.OneWaitSums.{is_component}
+use Rattle.net_core.specs.declared.spec.NodeSpec.TheVariants.{Cmd}
+use Rattle.net_core.specs.Wiring.{Circuit, Node, IsClosed}
+use Rattle.net_core.specs.Networks.{IsBasic, Correct, IsThrough, directions, end_at}
+use Rattle.net_core.specs.Renumbering.{Preserves}
+use Rattle.net_core.specs.Walk.{IsInWalkOrder}
+use Rattle.di_compile.specs.declared.compile.Basis.{Basis}
+use Rattle.di_compile.specs.declared.compile.Basis.TheVariants.{Wide}
+use Rattle.di_compile.specs.declared.refusal.CompileRefusal.{CompileRefusal}
+use Rattle.di_compile.specs.declared.refusal.CompileRefusal.TheVariants.{Broken, NotThisForm, NoMemory}
+
+-- A network of these processes is built in this basis: they are an admitted command of one process, which has
+-- one wait or is in rounds, and the basis is wide.
+pub record IsBuilt (basis : Basis) (ps : List Proc) : Type 0 where
+  pub wide : basis ≡ Wide
+  pub admitted : Admitted ps
+  pub process : Proc
+  pub alone : ps ≡ process ∷ []
+  pub plain : IsPlain (style_of (graph_of process))
+
+-- how many components of the sort the network has
+abbrev pub number_of : Circuit → Sort → ℕ
+number_of net s = how_many (λ (x : Node). is_component s x.spec) (drop 1 net.nodes)
+
+-- All that is promised of the network of a command: its components are basic, it is correct for the command in
+-- both halves, it is in walk order, it has as many components of each sort as the sums of the command say, and
+-- symbol i is on wire i.
+pub record IsNetworkOf (command : Command) (net : Circuit) : Type 0 where
+  pub basic : IsBasic net
+  pub correct : Correct net (Cmd command)
+  pub in_order : IsInWalkOrder net
+  pub sums : (s : Sort) → number_of net s ≡ command_sum wide_sum command.procs (length command.names) s
+  pub ports : (i : ℕ) → i < length command.names → end_at net 0 i ≡ i
+  pub few : net.wires < 2 ^ 31
+
+-- why a command of these processes is refused; memory may always be missing
+abbrev pub IsRefused : Basis → List Proc → CompileRefusal → Type 0
+IsRefused basis ps (Broken b) = IsBroken ps b
+IsRefused basis ps NotThisForm = Admitted ps × (IsBuilt basis ps → ⊥)
+IsRefused basis ps NoMemory = ⊤
+
+-- the network d is c in walk order
+pub record IsInOrderOf (c d : Circuit) : Type 0 where
+  pub in_order : IsInWalkOrder d
+  pub preserved : Preserves c d
+  pub wires : d.wires ≡ c.wires
+  pub outside : ((w : ℕ) → w < c.wires → IsThrough c w → ⊥) → (p : ℕ) → p < length (directions c 0) → end_at d 0 p ≡ p

@@ -1,0 +1,85 @@
+//! The network of a command.
+ghost use Rattle.std.specs.Prelude.{◌≡◌, [], ◌∷◌, IfOk, IfErr};
+ghost use Rattle.di_grammar.specs.Admitted.{Admitted};
+ghost use Rattle.place_graph.specs.Graph.{graph_of};
+ghost use Rattle.plain_split.specs.PlainNet.{HasPlain};
+ghost use Rattle.net_core.specs.Walk.{walk};
+ghost use Rattle.di_compile.specs.Compiling.{IsBuilt, IsNetworkOf, IsRefused};
+
+use crate::refusal::CompileRefusal;
+use cmd_tree::{Command, Proc};
+use di_grammar::check;
+use net_core::{Net, order};
+use place_graph::{SplitStyle, graph, style};
+use plain_split::plain_net;
+use std::alloc::{AllocError, Global};
+
+/// Of which components a network is made.
+#[derive(Debug, Clone, Copy, PartialEq, Eq)]
+pub enum Basis {
+    /// Of any widths.
+    Wide,
+    /// Of two inputs or outputs that are alike, at most.
+    Two,
+}
+
+/// The network of a command, in walk order: closed, of basic components, correct for the command, with as
+/// many components of each kind as the sums of the command say, and with symbol i on wire i.
+///
+/// A command that breaks a rule is refused with the answer of `check`; an admitted one of which no network is
+/// built is `NotThisForm`: all but, in the basis wide, those of one process with one wait or in rounds. Time
+/// and memory grow with the places of the command and the wires of its network.
+pub fn compile(alloc: Global, command: &Command, basis: Basis) -> Result<Net, CompileRefusal>
+    ensures ok { IfOk result (λ net. IsBuilt basis command.now.procs × IsNetworkOf command.now net) }
+    ensures refused { IfErr result (IsRefused basis command.now.procs) }
+{
+    if let Some(broken) = check(command) {
+        return Err(CompileRefusal::Broken(broken));
+    }
+    match basis {
+        Basis::Wide => compile_wide(alloc, command),
+        Basis::Two => Err(CompileRefusal::NotThisForm),
+    }
+}
+
+fn compile_wide(alloc: Global, command: &Command) -> Result<Net, CompileRefusal>
+    requires { Admitted command.now.procs }
+    ensures ok { IfOk result (λ net. IsBuilt Basis.Wide command.now.procs × IsNetworkOf command.now net) }
+    ensures refused { IfErr result (IsRefused Basis.Wide command.now.procs) }
+{
+    match command.procs.as_slice() {
+        [process] => compile_process(alloc, command, process),
+        _ => Err(CompileRefusal::NotThisForm),
+    }
+}
+
+// Of a command of this process alone.
+fn compile_process(
+    alloc: Global,
+    command: &Command,
+    process: &Proc,
+) -> Result<Net, CompileRefusal>
+    requires admitted { Admitted command.now.procs }
+    requires alone { command.now.procs ≡ process.now ∷ [] }
+    ensures ok { IfOk result (λ net. IsBuilt Basis.Wide command.now.procs × IsNetworkOf command.now net) }
+    ensures refused { IfErr result (IsRefused Basis.Wide command.now.procs) }
+{
+    let graph = graph(alloc, process)?;
+    match style(&graph) {
+        SplitStyle::Token => Err(CompileRefusal::NotThisForm),
+        SplitStyle::OneWait | SplitStyle::Rounds(_) => {
+            let net = plain_net(alloc, command, &graph)?;
+            Ok(in_order(alloc, net)?)
+        }
+    }
+}
+
+fn in_order(alloc: Global, net: Net) -> Result<Net, AllocError>
+    requires { IsClosed net }
+    ensures { IfOk result (λ ordered. IsInOrderOf net ordered) }
+{
+    match order(alloc, net) {
+        Ok(ordered) => Ok(ordered),
+        Err((_, error)) => Err(error),
+    }
+}

@@ -1,0 +1,13 @@
+//! From a command to its network.
+//!
+//! `compile` checks the command, builds the network of its process, and puts it in walk order. Today it
+//! builds commands of one process with one wait or in rounds, in the basis wide.
+#![tactic(auto)]
+
+mod compile;
+mod laws;
+mod refusal;
+
+pub use compile::{Basis, compile};
+pub use laws::compile_law;
+pub use refusal::CompileRefusal;
