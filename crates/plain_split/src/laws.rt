@@ -8,7 +8,7 @@ ghost use Rattle.cmd_tree.specs.Meaning.{TraceOf, has_symbol};
 ghost use Rattle.di_grammar.specs.Admitted.{Admitted};
 ghost use Rattle.di_grammar.specs.Grants.{IsGrant};
 ghost use Rattle.process_laws.specs.Shape.{IsFair};
-ghost use Rattle.place_graph.specs.declared.styles.SplitStyle.TheVariants.{OneWait};
+ghost use Rattle.place_graph.specs.declared.styles.SplitStyle.TheVariants.{OneWait, Rounds};
 ghost use Rattle.place_graph.specs.Points.{legs};
 ghost use Rattle.place_graph.specs.Graph.{graph_of};
 ghost use Rattle.place_graph.specs.Style.{in_rounds, style_of};
@@ -16,7 +16,7 @@ ghost use Rattle.place_graph.specs.Drawable.{AreDirections, AreSets, IsDrawable}
 ghost use Rattle.net_core.specs.declared.spec.NodeSpec.{NodeSpec};
 ghost use Rattle.net_core.specs.declared.spec.NodeSpec.TheVariants.{Cmd};
 ghost use Rattle.net_core.specs.Specs.{IsFormed, May, outs_of};
-ghost use Rattle.net_core.specs.Wiring.{Node};
+ghost use Rattle.net_core.specs.Wiring.{Node, Circuit};
 ghost use Rattle.net_laws.specs.Charts.{charted};
 ghost use Rattle.net_laws.specs.Implementing.{Implements};
 ghost use Rattle.plain_split.specs.OneWait.{links, one_chart};
@@ -26,6 +26,7 @@ ghost use Rattle.plain_split.specs.RoundsNet.{pow};
 ghost use Rattle.plain_split.specs.RoundsChart.{rounds_chart};
 ghost use Rattle.plain_split.specs.RoundsParts.{parts_of, Specifies};
 ghost use Rattle.plain_split.specs.RoundsCommands.{HasRounds, round_parts, rounds_net, rounds_sum};
+ghost use Rattle.plain_split.specs.PlainNet.{HasPlain, IsPlainNet, IsPlainSum};
 
 /// A specification that does what a fair process with one wait does, and has its symbols as ports, is
 /// implemented by the network of one wait. So is an admitted command of one process that is no grant
@@ -49,7 +50,17 @@ pub fn one_wait_law()
 pub fn rounds_law()
     ensures process { (s : NodeSpec) (out : ℕ → Bool) (p : Proc) (e : ℕ) → IsDrawable p → IsFair out p → AreDirections out p → IsTrue (in_rounds (graph_of p))
         → (graph_of p).waits ≡ pow e → 0 < e → Specifies s out (legs p) (TraceOf p) → Implements (charted (rounds_chart (parts_of s (graph_of p) e))) s }
+    ensures admitted { (c : Whole) (p : Proc) (k : ℕ) → c.procs ≡ p ∷ [] → Admitted c.procs → (IsGrant p → ⊥) → style_of (graph_of p) ≡ Rounds k → (e : ℕ) × (k ≡ pow e) × HasRounds c p e }
     ensures command { (c : Whole) (p : Proc) (e : ℕ) → HasRounds c p e → Implements (rounds_net c p e) (Cmd c) }
     ensures wires { (c : Whole) (p : Proc) (e : ℕ) → HasRounds c p e → (rounds_net c p e).wires < 2 ^ 20 }
     ensures kinds { (c : Whole) (p : Proc) (e : ℕ) (k : Sort) → how_many (λ (x : Node). is_component k x.spec) (drop 1 (rounds_net c p e).nodes) ≡ rounds_sum (round_parts c p e) k }
+{}
+
+/// The network of a command of one process that needs no token implements the command, has fewer than
+/// 2^20 wires, and has as many components of each kind as the sum of its graph says.
+pub fn plain_law()
+    ensures command { (c : Whole) (p : Proc) (net : Circuit) → HasPlain c p → IsPlainNet c p net → Implements net (Cmd c) }
+    ensures wires { (c : Whole) (p : Proc) (net : Circuit) → HasPlain c p → IsPlainNet c p net → net.wires < 2 ^ 20 }
+    ensures kinds { (c : Whole) (p : Proc) (net : Circuit) (k : Sort) → HasPlain c p → IsPlainNet c p net
+        → IsPlainSum c p k (how_many (λ (x : Node). is_component k x.spec) (drop 1 net.nodes)) }
 {}

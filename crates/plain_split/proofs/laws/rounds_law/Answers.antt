@@ -1,4 +1,5 @@
 use Rattle.plain_split.specs.RoundsCommands.{round_parts}
+use Rattle.plain_split.proofs.PlainCommands.{rounds_admitted}
 use Rattle.plain_split.proofs.RoundsLaw.{rounds_hold}
 use Rattle.plain_split.proofs.RoundsCommand.{rounds_command_right, rounds_command_wires}
 use Rattle.plain_split.proofs.RoundsKinds.{rounds_kinds}
@@ -6,6 +7,9 @@ use Rattle.plain_split.proofs.laws.rounds_law.Goals as goal
 
 pub returns-clause-process : goal.returns-clause-process
 returns-clause-process c = rounds_hold
+
+pub returns-clause-admitted : goal.returns-clause-admitted
+returns-clause-admitted c = λ d p k alone admitted other style. rounds_admitted d p alone admitted other k style
 
 pub returns-clause-command : goal.returns-clause-command
 returns-clause-command c = rounds_command_right
