@@ -48,3 +48,4 @@ pub mod RoundsBuilt
 pub mod RoundsTabled
 pub mod RoundsRead
 pub mod RoundsTied
+pub mod PlainCommands

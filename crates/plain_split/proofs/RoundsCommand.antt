@@ -39,7 +39,7 @@ use Rattle.plain_split.proofs.RoundsWritten.{rounds_written, start_low}
 use Rattle.plain_split.proofs.RoundsLaw.{rounds_right_for, rounds_ready_for, rounds_fine_for}
 use Rattle.plain_split.specs.Mirror.RoundsTables.{IsRoundGraph}
 
-style_rounds : (g : WaitGraph) (k : ℕ) → style_of g ≡ Rounds k → (nat_eq g.waits 1 ≡ false) × (in_rounds g ≡ true) × (g.waits ≡ k)
+pub style_rounds : (g : WaitGraph) (k : ℕ) → style_of g ≡ Rounds k → (nat_eq g.waits 1 ≡ false) × (in_rounds g ≡ true) × (g.waits ≡ k)
 style_rounds g k e = by (nat_eq g.waits 1) refl (in_rounds g) refl e
   where
     by : (b : Bool) → nat_eq g.waits 1 ≡ b → (c : Bool) → in_rounds g ≡ c → (if b then OneWait else (if c then Rounds g.waits else Token)) ≡ Rounds k

@@ -17,6 +17,7 @@ use Rattle.cmd_tree.specs.Meaning.{symbols}
 use Rattle.place_graph.specs.declared.leg.Leg.{Leg}
 use Rattle.place_graph.specs.declared.wait_graph.Cross.{Cross}
 use Rattle.place_graph.specs.declared.wait_graph.Act.{Act}
+use Rattle.place_graph.specs.declared.wait_graph.WaitGraph.{WaitGraph}
 use Rattle.place_graph.specs.declared.wait_graph.Start.TheVariants as start
 use Rattle.place_graph.specs.Points.{legs, Among}
 use Rattle.place_graph.specs.Graph.{is_act, acts_of, inputs_of, wait_points, act_points, index_of, number_at, bursts_of, burst_number, cross, is_before, put, in_order, act, start_at, graph_of}
@@ -43,6 +44,17 @@ power_by (suc d) n h e = elim (cases_eq (n % 2) 1) [
 
 pub power : (n : ℕ) → is_power_of_two n ≡ true → (e : ℕ) × (n ≡ pow e)
 power n h = power_by n n (omega arith) (eqb-true (count_ones n) 1 h)
+
+-- a graph in rounds has a power of two of waits
+pub in_power : (g : WaitGraph) → in_rounds g ≡ true → (e : ℕ) × (g.waits ≡ pow e)
+in_power g rounds = by (nat_eq (length g.bursts) 1) (is_power_of_two g.waits) refl (nat_eq (length g.crosses) g.waits) (one_entry_each (length g.acts) g.crosses) (has_entry g.start g.acts g.crosses) rounds
+  where
+    by : (a b : Bool) → is_power_of_two g.waits ≡ b → (c d f : Bool) → (a && b && c && d && f) ≡ true → (e : ℕ) × (g.waits ≡ pow e)
+    by a b e c d f rounds =
+        let (abcd, last) = and_parts (a && b && c && d) f rounds in
+        let (abc, each) = and_parts (a && b && c) d abcd in
+        let (ab, third) = and_parts (a && b) c abc in
+        power g.waits (e ∙ (and_parts a b ab).1)
 
 -- ---- bursts and acts take turns
 

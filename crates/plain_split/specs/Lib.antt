@@ -6,4 +6,5 @@ pub mod RoundsNet
 pub mod RoundsChart
 pub mod RoundsParts
 pub mod RoundsCommands
+pub mod PlainNet
 pub mod Mirror

@@ -1,6 +1,7 @@
 //! The network of a process whose graph needs no token.
 #![tactic(auto)]
 
+mod by_style;
 mod gives;
 mod joined;
 mod laws;
@@ -14,6 +15,6 @@ mod round_numbers;
 mod round_parts;
 mod rounds_net;
 
-pub use laws::{one_wait_law, rounds_law};
-pub use one_wait_net::one_wait;
-pub use rounds_net::rounds;
+pub use by_style::plain_net;
+pub use laws::{one_wait_law, plain_law, rounds_law};
+

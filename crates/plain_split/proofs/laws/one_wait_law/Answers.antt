@@ -1,5 +1,5 @@
 use Rattle.std.proofs.Common.{◌∙◌}
-use Rattle.plain_split.proofs.SharedAdmitted.{alone_fair, alone_directions, alone_sets}
+use Rattle.plain_split.proofs.PlainCommands.{one_wait_admitted}
 use Rattle.plain_split.proofs.OneWaitLaw.{one_wait_right, one_command_right, one_command_wires, command_counted}
 use Rattle.plain_split.proofs.OneWaitKinds.{one_wait_kinds}
 use Rattle.net_core.specs.declared.spec.NodeSpec.TheVariants.{Cmd}
@@ -10,13 +10,7 @@ pub returns-clause-process : goal.returns-clause-process
 returns-clause-process c = one_wait_right
 
 pub returns-clause-admitted : goal.returns-clause-admitted
-returns-clause-admitted c = λ d p alone admitted other style. record {
-  alone = alone;
-  fair = alone_fair d p alone admitted other;
-  directions = alone_directions d p alone admitted other;
-  sets = alone_sets d p alone admitted other;
-  style = style;
-}
+returns-clause-admitted c = one_wait_admitted
 
 pub returns-clause-command : goal.returns-clause-command
 returns-clause-command c = one_command_right
@@ -25,7 +19,4 @@ pub returns-clause-wires : goal.returns-clause-wires
 returns-clause-wires c = one_command_wires
 
 pub returns-clause-kinds : goal.returns-clause-kinds
-returns-clause-kinds c = λ d p k. one_wait_kinds (Cmd d) (links_of d p) k
-
-pub returns-clause-counted : goal.returns-clause-counted
-returns-clause-counted c = λ d p h k. one_wait_kinds (Cmd d) (links_of d p) k ∙ command_counted d p h k
+returns-clause-kinds c = λ d p h k. one_wait_kinds (Cmd d) (links_of d p) k ∙ command_counted d p h k
