@@ -15,8 +15,8 @@ use Rattle.net_core.specs.Wiring.{Circuit, Node, IsClosed}
 use Rattle.net_core.specs.Networks.{IsBasic, Correct, IsThrough, directions, end_at}
 use Rattle.net_core.specs.Renumbering.{Preserves}
 use Rattle.net_core.specs.Walk.{IsInWalkOrder}
-use Rattle.di_compile.specs.declared.compile.Basis.{Basis}
-use Rattle.di_compile.specs.declared.compile.Basis.TheVariants.{Wide}
+use Rattle.di_compile.specs.declared.build.Basis.{Basis}
+use Rattle.di_compile.specs.declared.build.Basis.TheVariants.{Wide}
 use Rattle.di_compile.specs.declared.refusal.CompileRefusal.{CompileRefusal}
 use Rattle.di_compile.specs.declared.refusal.CompileRefusal.TheVariants.{Broken, NotThisForm, NoMemory}
 

@@ -4,10 +4,10 @@
 //! builds commands of one process with one wait or in rounds, in the basis wide.
 #![tactic(auto)]
 
-mod compile;
+mod build;
 mod laws;
 mod refusal;
 
-pub use compile::{Basis, compile};
+pub use build::{Basis, compile};
 pub use laws::compile_law;
 pub use refusal::CompileRefusal;

@@ -3,8 +3,8 @@ ghost use Rattle.std.specs.Prelude.{◌≡◌, [], ◌∷◌, IfOk, IfErr};
 ghost use Rattle.di_grammar.specs.Admitted.{Admitted};
 ghost use Rattle.place_graph.specs.Graph.{graph_of};
 ghost use Rattle.plain_split.specs.PlainNet.{HasPlain};
-ghost use Rattle.net_core.specs.Walk.{walk};
-ghost use Rattle.di_compile.specs.Compiling.{IsBuilt, IsNetworkOf, IsRefused};
+ghost use Rattle.net_core.specs.Wiring.{IsClosed};
+ghost use Rattle.di_compile.specs.Compiling.{IsBuilt, IsInOrderOf, IsNetworkOf, IsRefused};
 
 use crate::refusal::CompileRefusal;
 use cmd_tree::{Command, Proc};
