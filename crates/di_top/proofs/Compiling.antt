@@ -4,57 +4,42 @@ use Rattle.std.specs.Prelude.{◌⊎◌, Ok, Err, Result}
 use Rattle.cmd_tree.specs.declared.command.Command.{Command}
 use Rattle.cmd_tree.specs.declared.tree.Proc.{Proc}
 use Rattle.net_core.specs.Wiring.{Circuit}
-use Rattle.net_core.specs.Networks.{IsBasic, Correct}
-use Rattle.net_core.specs.declared.spec.NodeSpec.TheVariants.{Cmd}
-use Rattle.di_top.specs.declared.form.Form.{Form}
+use Rattle.di_grammar.specs.Admitted.{Admitted}
+use Rattle.di_grammar.proofs.Answering.{broken_not_admitted}
+use Rattle.di_grammar.specs.declared.answer.Broken.{Broken}
+use Rattle.di_grammar.specs.Admitted.{IsBroken}
+use Rattle.di_compile.specs.Compiling.{IsNetworkOf}
 use Rattle.di_top.specs.declared.outcome.Outcome.{Outcome}
 use Rattle.di_top.specs.declared.outcome.Outcome.TheVariants.{Done, Refused, NoMemory}
 use Rattle.di_top.specs.declared.outcome.Why.TheVariants.{NotThisForm}
-use Rattle.di_top.specs.Forms.{TakesThenGives, Compiles, IsFormed}
-use Rattle.di_top.specs.FormNets.{form_net}
 use Rattle.net_text.specs.NetText.{net_text}
 use Rattle.di_top.specs.Requests.{CompileWide, Check}
 use Rattle.di_top.specs.Calls.{Reading, Loaded}
 use Rattle.di_top.specs.CommandFiles.{command_cap, StopsWith, FileStops, Bytes, FileHolds, FileGives, Stopped, Taken}
-use Rattle.di_top.specs.CompileForm.{Compiled, CompiledTo}
+use Rattle.di_top.specs.CompileForm.{Compiles}
 use Rattle.di_top.specs.CheckForm.{counts_of, counts_text}
 use Rattle.di_top.specs.Outcomes.{Gives, Prints}
 use Rattle.di_top.specs.Plans.{IsStop}
-use Rattle.di_top.proofs.FormNet.{form_net_basic, form_net_correct}
 use Rattle.di_top.proofs.Stops.{stops_are_stops}
 
--- the network of a command of the form
-pub compiled : (form : Form) (net : Circuit) → IsFormed form → net ≡ form_net form.command form.inputs form.outputs → Compiled form net
-compiled form net f e =
-    let P : Circuit → Type 0 = IsBasic in
-    let Q : Circuit → Type 0 = λ n. Correct n (Cmd form.command) in
-    record {
-      basic = subst P (sym e) (form_net_basic form.command form.inputs form.outputs f);
-      correct = subst Q (sym e) (form_net_correct form.command form.inputs form.outputs f);
-      shaped = e;
-    }
+pub compile_done : (r : Reading) (file : List ℕ) (command : Command) (net : Circuit) → FileHolds r file command.names command.procs
+    → Compiles command.procs × IsNetworkOf command net → Gives (Some (CompileWide file)) r Done × Prints (Some (CompileWide file)) r (net_text net)
+compile_done r file command net h (built, network) = (
+  inr (Taken command.names command.procs h (inl (built, refl))),
+  record { command = command; held = h; compiles = built; netlist = record { net = net; network = network; is = refl } },
+)
 
-pub compiles : (command : Command) (net : Circuit) → CompiledTo command net → Compiles command.procs
-compiles command net c =
-    let P : Command → Type 0 = λ d. TakesThenGives d.procs c.form.inputs c.form.outputs in
-    record { inputs = c.form.inputs; outputs = c.form.outputs; form = subst P c.of_command c.formed }
+-- an admitted command of which no network is built, or memory is missing
+pub not_built : (r : Reading) (file : List ℕ) (command : Command) → FileHolds r file command.names command.procs → (stop : Outcome)
+    → (stop ≡ NoMemory) ⊎ ((Compiles command.procs → ⊥) × (stop ≡ Refused NotThisForm)) → IsStop stop × Gives (Some (CompileWide file)) r stop
+not_built r file command h stop (inl e) = let P : Outcome → Type 0 = IsStop in (subst P (sym e) tt, inl e)
+not_built r file command h stop (inr (other, e)) =
+    let P : Outcome → Type 0 = IsStop in (subst P (sym e) tt, inr (Taken command.names command.procs h (inr (other, e))))
 
-pub compile_done : (r : Reading) (file : List ℕ) (command : Command) (form : Form) (net : Circuit) → FileHolds r file command.names command.procs
-    → IsFormed form × (form.command ≡ command) → net ≡ form_net form.command form.inputs form.outputs
-    → Gives (Some (CompileWide file)) r Done × Prints (Some (CompileWide file)) r (net_text net)
-compile_done r file command form net h f e =
-    let c : CompiledTo command net = record { form = form; of_command = f.1; formed = f.0; compiled = compiled form net f.0 e } in (
-      inr (Taken command.names command.procs h (inl (compiles command net c, refl))),
-      record { command = command; held = h; netlist = record { net = net; compiled = c; is = refl } },
-    )
-
--- an admitted command of another form
-pub other_form : (r : Reading) (file : List ℕ) (command : Command) → FileHolds r file command.names command.procs
-    → (Compiles command.procs → ⊥) → IsStop (Refused NotThisForm) × Gives (Some (CompileWide file)) r (Refused NotThisForm)
-other_form r file command h other = (tt, inr (Taken command.names command.procs h (inr (other, refl))))
-
-pub no_memory : (r : Reading) (file : List ℕ) (stop : Outcome) → stop ≡ NoMemory → IsStop stop × Gives (Some (CompileWide file)) r stop
-no_memory r file stop e = let P : Outcome → Type 0 = IsStop in (subst P (sym e) tt, inl e)
+-- an admitted command breaks no rule
+pub no_rule : (procs : List Proc) (b : Broken) (stop : Outcome) → Admitted procs → IsBroken procs b
+    → (stop ≡ NoMemory) ⊎ ((Compiles procs → ⊥) × (stop ≡ Refused NotThisForm))
+no_rule procs b stop admitted broken = absurd (broken_not_admitted procs b broken admitted)
 
 pub check_done : (r : Reading) (file : List ℕ) (command : Command) → FileHolds r file command.names command.procs
     → Gives (Some (Check file)) r Done × Prints (Some (Check file)) r (counts_text (counts_of command.names command.procs))

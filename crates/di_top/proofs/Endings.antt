@@ -5,9 +5,8 @@ use Rattle.di_top.specs.declared.outcome.Outcome.{Outcome}
 use Rattle.di_top.specs.declared.outcome.Outcome.TheVariants.{Done, Usage, WriteFault, NoMemory}
 use Rattle.di_top.specs.Requests.{Request, CompileWide, files_of}
 use Rattle.di_top.specs.Calls.{Reading, Change, Quiet, Tells, Failed, Unchanged, Gained, GainedFront}
-use Rattle.di_top.specs.Forms.{Compiles}
 use Rattle.di_top.specs.CommandFiles.{IsAdmittedText, IsSuited}
-use Rattle.di_top.specs.CompileForm.{CompileAdmits}
+use Rattle.di_top.specs.CompileForm.{Compiles, CompileAdmits}
 use Rattle.di_top.specs.Outcomes.{FormGives, Gives, Prints, Admits}
 use Rattle.di_top.specs.Plans.{IsStop}
 use Rattle.di_top.specs.Say.{say_line}
@@ -16,6 +15,7 @@ use Rattle.di_top.specs.Promised.{Promise, CutLine, CanRise}
 use Rattle.di_top.specs.Headline.{Faultless, Headline, Appended}
 use Rattle.di_top.proofs.Stops.{loaded_whole}
 use Rattle.di_top.proofs.FormAnswers.{some_same, gives_admitted, one_answer, admits_told, admits_gives}
+use Rattle.di_grammar.proofs.FairnessLaws.{weave_rules}
 use Rattle.di_io.proofs.Puts.{front_whole}
 
 stop_not_done : (o : Outcome) → IsStop o → o ≢ Done
@@ -193,7 +193,12 @@ appended r file content before out say outcome f d =
     let same : q.held.bytes ≡ content = loaded_whole r file q.held.bytes q.held.loaded q.held.admitted.source.read.few content f.content_told in
     record {
       text = p.text;
-      compiled = record { command = q.command; admitted = subst P same q.held.admitted; netlist = q.netlist };
+      compiled = record {
+        command = q.command;
+        admitted = subst P same q.held.admitted;
+        rules = weave_rules q.command.procs q.command.valid.shaped q.held.admitted.admitted;
+        netlist = q.netlist;
+      };
       gained = p.gained before f.out_told;
     }
 

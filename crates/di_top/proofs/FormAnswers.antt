@@ -7,14 +7,12 @@ use Rattle.di_top.specs.declared.outcome.Outcome.{Outcome}
 use Rattle.di_top.specs.declared.outcome.Outcome.TheVariants.{Done}
 use Rattle.di_top.specs.Requests.{Request, CompileWide, Check, files_of}
 use Rattle.di_top.specs.Calls.{Reading, Loaded, Unread, Quiet, Tells}
-use Rattle.di_top.specs.Forms.{Compiles}
 use Rattle.di_top.specs.CommandFiles as held
 use Rattle.di_top.specs.CommandFiles.{command_cap, StopsWith, IsAdmittedText, IsSuited, FileHolds, FileGives, Fault, Bytes, Taken, FileAdmits}
-use Rattle.di_top.specs.CompileForm.{CompileUses, CompileGives, CompileAdmits}
+use Rattle.di_top.specs.CompileForm.{Compiles, CompileUses, CompileGives, CompileAdmits}
 use Rattle.di_top.specs.CheckForm.{CheckUses, CheckGives, CheckAdmits}
 use Rattle.di_top.specs.Outcomes.{FormGives, Gives, Prints, Admits}
 use Rattle.di_top.proofs.Stops.{loaded_whole, not_stopped, one_text, one_stop, stops_are_stops}
-use Rattle.di_top.proofs.Compiling.{compiles}
 
 pub some_same : (x y : List ℕ) (o : Option (List ℕ)) → o ≡ Some x → o ≡ Some y → x ≡ y
 some_same x y o e k = cc
@@ -54,7 +52,7 @@ gives_admitted (Some (Check file)) r (inr g) t = check_only r file g t.0.0 t.0.1
 pub prints_admitted : (request : Option Request) (r : Reading) (text : List ℕ) → Prints request r text → Tells r (files_of request) → Admits request r
 prints_admitted None r text p t = absurd p
 prints_admitted (Some (CompileWide file)) r text p t =
-    holds_admits Compiles r file p.command.names p.command.procs p.held (compiles p.command p.netlist.net p.netlist.compiled) t.0.0 t.0.1
+    holds_admits Compiles r file p.command.names p.command.procs p.held p.compiles t.0.0 t.0.1
 prints_admitted (Some (Check file)) r text p t = holds_admits (λ procs. ⊤) r file p.names p.procs p.held tt t.0.0 t.0.1
 
 -- ---- one outcome

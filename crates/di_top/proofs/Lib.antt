@@ -1,6 +1,3 @@
-pub mod FormPorts
-pub mod FormNet
-pub mod FormShapes
 pub mod Compiling
 pub mod Endings
 pub mod FormAnswers

@@ -4,9 +4,8 @@ use Rattle.di_top.specs.declared.outcome.Outcome.{Outcome}
 use Rattle.di_top.specs.declared.outcome.Outcome.TheVariants.{Done, NoMemory}
 use Rattle.di_top.specs.Requests.{CompileWide}
 use Rattle.di_top.specs.Calls.{Reading, Change, Unread, Failed}
-use Rattle.di_top.specs.Forms.{Compiles}
 use Rattle.di_top.specs.CommandFiles.{IsSuited}
-use Rattle.di_top.specs.CompileForm.{IsCompiled}
+use Rattle.di_top.specs.CompileForm.{Compiles, IsCompiled}
 use Rattle.di_top.specs.Promised.{Promise}
 
 -- the netlist of the content was appended

@@ -1,5 +1,3 @@
-pub mod Forms
-pub mod FormNets
 pub mod Say
 pub mod Requests
 pub mod Calls

@@ -1,20 +1,24 @@
 //! The form `compile wide F`.
-ghost use Rattle.std.specs.Prelude.{◌≡◌, ◌≤◌, ℕ, List, IfOk, IfErr, Some};
+ghost use Rattle.std.specs.Prelude.{◌≡◌, ◌≤◌, ◌⊎◌, ℕ, List, IfOk, IfErr, Some};
+ghost use Rattle.di_grammar.specs.Admitted.{Admitted};
+ghost use Rattle.di_compile.specs.Compiling.{IsNetworkOf};
 ghost use Rattle.di_top.specs.Requests.{CompileWide as Asked};
 ghost use Rattle.di_top.specs.Calls.{reading};
+ghost use Rattle.di_top.specs.CompileForm.{Compiles};
 ghost use Rattle.di_top.specs.Outcomes.{Gives, Prints};
 ghost use Rattle.di_top.specs.Plans.{text_of, IsStop};
 
 use crate::command::load_command;
-use crate::form::read_form;
-use crate::network::build_net;
 use crate::outcome::{Outcome, Why};
 use crate::plan::Plan;
+use cmd_tree::Command;
+use di_compile::{Basis, CompileRefusal, compile};
 use di_io::Shelf;
+use net_core::Net;
 use std::alloc::Global;
 
 /// From the name of a command file to the network of its command: the file is loaded and read, its
-/// command is admitted, and the network of its form is built.
+/// command is admitted, and its network is built.
 pub fn plan_compile<F: Shelf>(alloc: Global, file: &str, shelf: &mut F) -> Result<Plan, Outcome>
     ensures ok { IfOk result (λ plan. Gives (Some (Asked file.now)) (reading F.content F.faults shelf.old shelf.new) Outcome.Done
         × Prints (Some (Asked file.now)) (reading F.content F.faults shelf.old shelf.new) (text_of plan)) }
@@ -24,9 +28,21 @@ pub fn plan_compile<F: Shelf>(alloc: Global, file: &str, shelf: &mut F) -> Resul
     ensures later { (other : List ℕ) → F.faults shelf.old other ≤ F.faults shelf.new other }
 {
     let command = load_command(alloc, file, shelf)?;
-    let Some(form) = read_form(command) else {
-        return Err(Outcome::Refused(Why::NotThisForm));
-    };
-    let net = build_net(alloc, form)?;
+    let net = network(alloc, &command)?;
     Ok(Plan::Compile(net))
+}
+
+// The network of an admitted command.
+fn network(alloc: Global, command: &Command) -> Result<Net, Outcome>
+    requires { Admitted command.now.procs }
+    ensures ok { IfOk result (λ net. Compiles command.now.procs × IsNetworkOf command.now net) }
+    ensures stop { IfErr result (λ stop. (stop ≡ Outcome.NoMemory)
+        ⊎ ((Compiles command.now.procs → ⊥) × (stop ≡ Outcome.Refused Why.NotThisForm))) }
+{
+    match compile(alloc, command, Basis::Wide) {
+        Ok(net) => Ok(net),
+        Err(CompileRefusal::NoMemory) => Err(Outcome::NoMemory),
+        Err(CompileRefusal::NotThisForm) => Err(Outcome::Refused(Why::NotThisForm)),
+        Err(CompileRefusal::Broken(broken)) => Err(Outcome::Refused(Why::Grammar(broken))),
+    }
 }

@@ -4,10 +4,8 @@
 mod check_form;
 mod command;
 mod compile_form;
-mod form;
 mod laws;
 mod load;
-mod network;
 mod outcome;
 mod plan;
 mod say;
