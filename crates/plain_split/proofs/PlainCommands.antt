@@ -1,7 +1,6 @@
 -- An admitted command of one process that needs no token has one wait or is in rounds.
 use Rattle.std.specs.Prelude.{IfOk}
 use Rattle.std.proofs.Common.{Result, Ok, Err, ◌≡◌, ◌<◌, ◌^◌, ℕ, Bool, true, false, nat_eq, List, [], ◌∷◌, drop, true≢false, eq-eqb, ne_eqb, refl, sym, ap, subst, ◌∙◌, if◌then◌else◌}
-
 use Rattle.cmd_tree.specs.declared.tree.Proc.{Proc}
 use Rattle.cmd_tree.specs.declared.command.Command.{Command}
 use Rattle.di_grammar.specs.Admitted.{Admitted}
@@ -14,10 +13,10 @@ use Rattle.place_graph.specs.Style.{in_rounds, style_of}
 use Rattle.net_core.specs.Wiring.{Circuit, Node}
 use Rattle.net_core.specs.declared.spec.NodeSpec.TheVariants.{Cmd}
 use Rattle.net_laws.specs.Implementing.{Implements}
-use Rattle.plain_split.specs.OneWaitSums.{Sort, is_component, how_many, one_wait_sum}
+use Rattle.plain_split.specs.OneWaitSums.{Sort, is_component, how_many}
 use Rattle.plain_split.specs.OneWaitCommands.{HasOneWait, links_of, one_wait_net}
 use Rattle.plain_split.specs.RoundsNet.{pow}
-use Rattle.plain_split.specs.RoundsCommands.{HasRounds, round_parts, rounds_net, rounds_sum}
+use Rattle.plain_split.specs.RoundsCommands.{HasRounds, round_parts, rounds_net}
 use Rattle.plain_split.specs.PlainNet.{IsPlain, HasPlain, IsNetIn, IsPlainNet, IsSumIn, IsPlainSum}
 use Rattle.plain_split.proofs.SharedAdmitted.{alone_fair, alone_directions, alone_sets}
 use Rattle.plain_split.proofs.OneWaitLaw.{one_command_right, one_command_wires}
@@ -40,14 +39,17 @@ module _ (c : Command) (p : Proc) (alone : c.procs ≡ p ∷ []) (admitted : Adm
   rounds_admitted k style =
       let (not_one, rounds, many) = style_rounds (graph_of p) k style in
       let (e, power) = in_power (graph_of p) rounds in
-      let is : k ≡ pow e = sym many ∙ power in
-      (e, is, record {
-        alone = alone;
-        fair = alone_fair c p alone admitted other;
-        directions = alone_directions c p alone admitted other;
-        sets = alone_sets c p alone admitted other;
-        style = style ∙ ap Rounds is;
-      })
+      let is : k ≡ pow e = sym many ∙ power in (
+        e,
+        is,
+        record {
+          alone = alone;
+          fair = alone_fair c p alone admitted other;
+          directions = alone_directions c p alone admitted other;
+          sets = alone_sets c p alone admitted other;
+          style = style ∙ ap Rounds is;
+        },
+      )
 
 -- what holds of both networks holds of the one of the style
 by_style : (c : Command) (p : Proc) (P : Circuit → Type 0) → HasPlain c p → (HasOneWait c p → P (one_wait_net c p)) → ((e : ℕ) → HasRounds c p e → P (rounds_net c p e))
