@@ -42,14 +42,17 @@ module _ (c : Command) (p : Proc) (alone : c.procs ≡ p ∷ []) (admitted : Adm
   rounds_admitted k style =
       let (not_one, rounds, many) = style_rounds (graph_of p) k style in
       let (e, power) = in_power (graph_of p) rounds in
-      let is : k ≡ pow e = sym many ∙ power in
-      (e, is, record {
-        alone = alone;
-        fair = alone_fair c p alone admitted other;
-        directions = alone_directions c p alone admitted other;
-        sets = alone_sets c p alone admitted other;
-        style = style ∙ ap Rounds is;
-      })
+      let is : k ≡ pow e = sym many ∙ power in (
+        e,
+        is,
+        record {
+          alone = alone;
+          fair = alone_fair c p alone admitted other;
+          directions = alone_directions c p alone admitted other;
+          sets = alone_sets c p alone admitted other;
+          style = style ∙ ap Rounds is;
+        },
+      )
 
 -- what holds of both networks holds of the one of the style
 by_style : (c : Command) (p : Proc) (P : Circuit → Type 0) → HasPlain c p → (HasOneWait c p → P (one_wait_net c p)) → ((e : ℕ) → HasRounds c p e → P (rounds_net c p e))

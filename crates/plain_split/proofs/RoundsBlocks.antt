@@ -1,13 +1,13 @@
 -- The blocks of wires in a network of rounds, and their numbers.
-use Rattle.std.specs.Prelude.{if◌then◌else◌, nat_eq, nat_lt}
-use Rattle.std.proofs.Common.{◌≡◌, ℕ, zero, suc, ◌+◌, ◌-◌, ◌<◌, ◌≤◌, ◌^◌, Bool, true, false, true≢false, List, [], ◌∷◌, ◌++◌, map, length, get_or, Option, None, Some, inl, inr, refl, sym, ap, subst, ◌∙◌, arith, append-nil, append_assoc, ne_eqb, eqb-true}
+use Rattle.std.specs.Prelude.{if◌then◌else◌, nat_lt}
+use Rattle.std.proofs.Common.{◌≡◌, ℕ, zero, suc, ◌+◌, ◌-◌, ◌<◌, ◌≤◌, ◌^◌, Bool, true, false, List, [], ◌∷◌, ◌++◌, map, length, Option, None, inl, inr, refl, sym, ap, subst, ◌∙◌, arith, append-nil, append_assoc, ne_eqb}
 use Rattle.std.specs.List.{position_or_len, range_with_len}
 use Rattle.std.proofs.lemmas.Bool.{cases_lt}
 use Rattle.std.proofs.lemmas.List.{map-append, length-map}
 use Rattle.std.proofs.lemmas.List.FromFn.{length-map-range_with_len}
 use Rattle.net_laws.specs.ForkChain.{each}
-use Rattle.plain_split.specs.RoundsNet.{Path, Top, Odd, Even, pow, leaf, burst_before, Wire, Sym, To, Go, Put, Out}
-use Rattle.plain_split.specs.RoundsChart.{Parts, is_single, sole, entry, begins_process, back_go, back_put, back, on_put, on_go, on, same, count, places, puts, inner_wires, lines}
+use Rattle.plain_split.specs.RoundsNet.{Top, Odd, Even, pow, leaf, burst_before, Wire, Sym, To, Go, Put}
+use Rattle.plain_split.specs.RoundsChart.{Parts, is_single, sole, entry, begins_process, back_go, back, on_go, same, count, places, puts, inner_wires, lines}
 use Rattle.plain_split.specs.Mirror.RoundsTables.{number_of, end_of, end_at, picked, after_end, numbered, after_ends, next_after, top_wires, begin_wires, before_level, before_begin, before_puts, level_numbers, put_numbers, IsReady}
 
 pub map_map : {A B C : Type 0} (f : B → C) (g : A → B) (xs : List A) → map f (map g xs) ≡ map (λ x. f (g x)) xs
@@ -41,8 +41,7 @@ module _ (r : Parts) (ready : IsReady r) where
 
   pub top_single : (x : ℕ) → r.burst ≡ x ∷ [] → (number_of r (To Top) ≡ x) × (next_after r (top_wires r) ≡ next_after r [])
   top_single x e =
-      let taken : map (λ a. number_of r (Sym a)) (x ∷ []) ≡ x ∷ [] = subst (λ b. map (λ a. number_of r (Sym a)) b ≡ b) e ready.takes in
-      (
+      let taken : map (λ a. number_of r (Sym a)) (x ∷ []) ≡ x ∷ [] = subst (λ b. map (λ a. number_of r (Sym a)) b ≡ b) e ready.takes in (
         ap (λ b. position_or_len (same (if is_single b then Sym (sole b) else To Top)) (lines r)) e ∙ cc,
         ap (λ b. next_after r (if is_single b then [] else To Top ∷ [])) e,
       )
@@ -51,8 +50,7 @@ module _ (r : Parts) (ready : IsReady r) where
   top_many e =
       let cut : inner_wires r ≡ To Top ∷ drop_top = ap (λ b. (if b then [] else To Top ∷ []) ++ drop_top) e in
       let numbers : numbered (next_after r []) (end_at r (To Top) ∷ []) ≡ number_of r (To Top) ∷ [] = ready.blocks [] (To Top ∷ []) drop_top cut in
-      let at : numbered (next_after r []) (None ∷ []) ≡ number_of r (To Top) ∷ [] = ap (λ x. numbered (next_after r []) (x ∷ [])) (sym top_inside) ∙ numbers in
-      (
+      let at : numbered (next_after r []) (None ∷ []) ≡ number_of r (To Top) ∷ [] = ap (λ x. numbered (next_after r []) (x ∷ [])) (sym top_inside) ∙ numbers in (
         cc,
         ap (λ b. next_after r (if b then [] else To Top ∷ [])) e ∙ ap (λ x. after_end (count r) x) top_inside,
       )
@@ -65,8 +63,7 @@ module _ (r : Parts) (ready : IsReady r) where
   level_cut : (d : ℕ) → d < r.levels → (vs : List Wire) × (inner_wires r ≡ before_level r d ++ (places r d ++ vs))
   level_cut d low =
       let tail : List Wire = begin_wires r ++ each (puts r) (pow r.levels) in
-      let (vs, e) = each_split (places r) r.levels d low in
-      (
+      let (vs, e) = each_split (places r) r.levels d low in (
         vs ++ tail,
         ap (λ ws. top_wires r ++ (ws ++ tail)) e
             ∙ ap (λ ws. top_wires r ++ ws) (append_assoc (each (places r) d) (places r d ++ vs) tail ∙ ap (λ ws. each (places r) d ++ ws) (append_assoc (places r d) vs tail))
@@ -143,8 +140,7 @@ module _ (r : Parts) (ready : IsReady r) where
 
   puts_cut : (y : ℕ) → y < pow r.levels → (vs : List Wire) × (inner_wires r ≡ before_puts r y ++ (puts r y ++ vs))
   puts_cut y low =
-      let (vs, e) = each_split (puts r) (pow r.levels) y low in
-      (
+      let (vs, e) = each_split (puts r) (pow r.levels) y low in (
         vs,
         ap (λ ws. top_wires r ++ (each (places r) r.levels ++ (begin_wires r ++ ws))) e
             ∙ ap (λ ws. top_wires r ++ (each (places r) r.levels ++ ws)) (sym (append_assoc (begin_wires r) (each (puts r) y) (puts r y ++ vs)))
@@ -204,8 +200,7 @@ module _ (r : Parts) (ready : IsReady r) where
   level_is d n k p es low k_is p_is n_is es_is =
       let ends : es ≡ level_ends r ready (suc d) =
       es_is ∙ ap (λ q. map (λ i. end_at r (To (leaf k i))) (range_with_len 0 q)) p_is ∙ ap (λ q. map (λ i. end_at r (To (leaf q i))) (range_with_len 0 (pow (suc d)))) k_is in
-      let long : length es ≡ pow (suc d) = ap length ends ∙ length-map-range_with_len (λ i. end_at r (To (leaf (suc d) i))) 0 (pow (suc d)) in
-      (
+      let long : length es ≡ pow (suc d) = ap length ends ∙ length-map-range_with_len (λ i. end_at r (To (leaf (suc d) i))) 0 (pow (suc d)) in (
         ap (λ m. numbered m es) n_is ∙ ap (numbered (next_after r (before_level r d))) ends ∙ level_numbered r ready d low,
         ap (λ m. after_ends m es) n_is ∙ ap (after_ends (next_after r (before_level r d))) ends ∙ level_next r ready d,
         omega (arith, level_small d low, level_few r ready d low, ready.few_wires),

@@ -1,6 +1,6 @@
 -- The components of a network of rounds, from the tables of numbers.
-use Rattle.std.specs.Prelude.{if◌then◌else◌, nat_eq, nat_lt, not, ◌&&◌, ◌||◌, filter, slice_index}
-use Rattle.std.proofs.Common.{◌≡◌, ℕ, zero, suc, ◌+◌, ◌-◌, ◌<◌, ◌≤◌, Bool, true, false, true≢false, List, [], ◌∷◌, ◌++◌, map, length, get_or, inl, inr, refl, sym, ap, subst, ◌∙◌, arith, append-nil, append_assoc, eqb-true}
+use Rattle.std.specs.Prelude.{if◌then◌else◌, nat_eq, not, ◌&&◌, ◌||◌, filter}
+use Rattle.std.proofs.Common.{◌≡◌, ℕ, suc, ◌+◌, ◌-◌, ◌<◌, ◌≤◌, Bool, true, false, true≢false, List, [], ◌∷◌, ◌++◌, map, length, get_or, inl, inr, refl, sym, ap, ◌∙◌, arith, append-nil, eqb-true}
 use Rattle.std.specs.List.{AllByRecursion, position_or_len, range_with_len}
 use Rattle.std.proofs.lemmas.Bool.{lt-ltb, le-ltb}
 use Rattle.std.proofs.lemmas.List.{map-append, get_or-map, length-map}
@@ -11,8 +11,8 @@ use Rattle.net_core.specs.declared.spec.NodeSpec.TheVariants.{Kind as Basic}
 use Rattle.net_core.specs.Wiring.{Node}
 use Rattle.net_laws.proofs.Among.{Among}
 use Rattle.plain_split.specs.declared.gives.Give.{Give}
-use Rattle.plain_split.specs.RoundsNet.{Path, Top, Odd, Even, pow, leaf, burst_before, Wire, Sym, To, Go, Put, Out, Name, Env, Join, Tog, Gate, Spread, Shows}
-use Rattle.plain_split.specs.RoundsChart.{Parts, is_single, givers, is_kept, back, same, count, is_out, outer, outer_ports, lines, toggles}
+use Rattle.plain_split.specs.RoundsNet.{Top, Odd, Even, pow, leaf, burst_before, Sym, To, Go, Put, Out, Env, Join, Tog, Gate, Spread, Shows}
+use Rattle.plain_split.specs.RoundsChart.{Parts, is_single, givers, is_kept, count, is_out, outer, outer_ports, toggles}
 use Rattle.plain_split.specs.Mirror.RoundsGives.{give_of, gives_of}
 use Rattle.plain_split.specs.Mirror.RoundsTables.{number_of, level_numbers, put_numbers, part_of, toggle_of, IsReady}
 use Rattle.plain_split.proofs.RoundsLists.{filter_among}

@@ -1,6 +1,6 @@
 -- What the tables of the parts of a network of rounds say, row by row.
-use Rattle.std.specs.Prelude.{if◌then◌else◌, nat_eq, not, ◌&&◌}
-use Rattle.std.proofs.Common.{Vec, Global, ne_eqb, eq-eqb, true≢false, subst, ◌≤◌, ◌≡◌, ℕ, zero, suc, ◌+◌, ◌<◌, Bool, true, false, List, [], ◌∷◌, map, length, get_or, Option, None, Some, refl, sym, ap, ◌∙◌, arith}
+use Rattle.std.specs.Prelude.{if◌then◌else◌, nat_eq}
+use Rattle.std.proofs.Common.{Vec, Global, ne_eqb, eq-eqb, true≢false, subst, ◌≤◌, ◌≡◌, ℕ, zero, suc, ◌<◌, Bool, true, false, List, [], ◌∷◌, map, length, get_or, None, Some, refl, sym, ap, ◌∙◌, arith}
 use Rattle.std.proofs.lemmas.List.{length-map, get_or-map}
 use Rattle.net_core.specs.Specs.{outs_of}
 use Rattle.plain_split.specs.declared.gives.Give.{Give}
@@ -9,7 +9,7 @@ use Rattle.std.specs.List.{AllByRecursion}
 use Rattle.net_laws.proofs.Among.{all_at}
 use Rattle.plain_split.proofs.RoundsDeal.{leaf_deep, leaf_first}
 use Rattle.plain_split.specs.RoundsNet.{pow, depth, leaf, act_after, Put, Out, To, Go}
-use Rattle.plain_split.specs.RoundsChart.{Parts, is_single, sole, givers, is_out, begins_process, act_at, on_put, on_go}
+use Rattle.plain_split.specs.RoundsChart.{is_single, sole, givers, is_out, begins_process, act_at, on_put, on_go}
 use Rattle.plain_split.specs.Mirror.RoundsGives.{give_of}
 use Rattle.plain_split.specs.Mirror.RoundsTables.{parts_by, end_of, end_at, IsTabled}
 

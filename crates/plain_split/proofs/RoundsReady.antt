@@ -1,12 +1,12 @@
 -- The wires of a network of rounds are numbered block by block.
 use Rattle.std.specs.Prelude.{filter, if◌then◌else◌}
-use Rattle.std.proofs.Common.{◌≡◌, ℕ, ◌+◌, ◌<◌, ◌≤◌, ◌^◌, Bool, true, false, List, [], ◌∷◌, ◌++◌, map, length, get_or, Option, None, Some, ◌⊎◌, inl, inr, refl, sym, ap, subst, ◌∙◌, arith, append-nil, append_assoc, length-append}
-use Rattle.std.specs.List.{position_or_len, range_with_len}
-use Rattle.std.proofs.lemmas.List.{map-append, length-map}
+use Rattle.std.proofs.Common.{◌≡◌, ℕ, ◌+◌, ◌<◌, ◌≤◌, ◌^◌, Bool, true, false, List, [], ◌∷◌, ◌++◌, map, length, get_or, None, ◌⊎◌, inl, inr, refl, sym, ap, subst, ◌∙◌, arith, append_assoc, length-append}
+use Rattle.std.specs.List.{position_or_len}
+use Rattle.std.proofs.lemmas.List.{length-map}
 use Rattle.std.proofs.lemmas.List.FromFn.{length-map-range_with_len}
 use Rattle.net_laws.proofs.Among.{Among}
 use Rattle.net_laws.proofs.Rows.{among_right}
-use Rattle.plain_split.specs.RoundsNet.{pow, Wire, Sym, To, Go, Put, Out}
+use Rattle.plain_split.specs.RoundsNet.{Wire, Sym, To, Go, Put, Out}
 use Rattle.plain_split.specs.RoundsChart.{Parts, back, on, same, ends_inside, count, outer, outer_ports, inner_wires, lines}
 use Rattle.plain_split.specs.Mirror.RoundsTables.{number_of, end_of, end_at, picked, after_end, numbered, after_ends, next_after, IsReady}
 use Rattle.plain_split.proofs.RoundsPlan.{Sane}

@@ -10,7 +10,7 @@ use Rattle.plain_split.proofs.RoundsDeal.{pow_some}
 use Rattle.net_laws.proofs.Among.{all_at}
 use Rattle.net_laws.proofs.Rows.{range_both}
 use Rattle.plain_split.specs.declared.gives.Give.{Give}
-use Rattle.plain_split.specs.Mirror.RoundsGives.{with_outs, with_acts}
+use Rattle.plain_split.specs.Mirror.RoundsGives.{with_outs}
 
 -- the table with one output more
 pub gives_step : {V : Type 0} (f : V → List Give) (d v : V) (y k : ℕ) (outs : List ℕ) (gs : List V) (end : List (List Give)) → k < length outs → AllByRecursion (λ a. a < length gs) outs

@@ -1,7 +1,7 @@
 -- The tables of the parts of a network of rounds are right.
-use Rattle.std.proofs.Common.{◌≡◌, ℕ, zero, suc, ◌+◌, ◌<◌, ◌≤◌, ◌^◌, Bool, List, [], ◌∷◌, map, length, get_or, refl, sym, ap, subst, ◌∙◌, arith, replicate}
+use Rattle.std.proofs.Common.{◌≡◌, ℕ, zero, suc, ◌<◌, ◌^◌, Bool, List, [], ◌∷◌, map, length, get_or, refl, sym, ap, subst, ◌∙◌, arith, replicate}
 use Rattle.std.proofs.Math.Path.{fun_ext}
-use Rattle.std.specs.List.{AllByRecursion, range_with_len}
+use Rattle.std.specs.List.{AllByRecursion}
 use Rattle.std.proofs.lemmas.List.{length-map, length-replicate}
 use Rattle.net_laws.proofs.Among.{Distinct}
 use Rattle.place_graph.specs.declared.wait_graph.Act.{Act}
@@ -12,7 +12,7 @@ use Rattle.net_core.specs.Specs.{outs_of}
 use Rattle.plain_split.specs.declared.gives.Give.{Give}
 use Rattle.plain_split.specs.declared.round_parts.RoundParts.{RoundParts}
 use Rattle.plain_split.specs.RoundsNet.{pow}
-use Rattle.plain_split.specs.RoundsChart.{Parts, count}
+use Rattle.plain_split.specs.RoundsChart.{Parts}
 use Rattle.plain_split.specs.RoundsParts.{begins_with_act, first_burst, outs_at, parts_of}
 use Rattle.plain_split.specs.Mirror.RoundsGives.{with_acts, gives_of}
 use Rattle.plain_split.specs.Mirror.RoundsTables.{parts_by, IsReady, IsRoundGraph, IsTabled}
@@ -72,15 +72,20 @@ module _ (s : NodeSpec) (g : WaitGraph) (e : ℕ) (h : IsRoundGraph s g e) where
       let wide : length (outs_of t.spec) ≡ length (outs_of s) = ap (λ x. length (outs_of x)) spec in
       let ok : AreOuts (length (outs_of s)) (map (λ v. v.items) t.outs.items) =
       subst (AreOuts (length (outs_of s))) (sym rows) (all_lists (λ os. AllByRecursion (λ a. a < length (outs_of s)) os × Distinct os) outs (λ i low.
-          let less : i < pow e = omega (arith, outs_many) in
-          subst (λ (os : List ℕ). AllByRecursion (λ a. a < length (outs_of s)) os × Distinct os) (sym (outs_table g.acts i)) (h.ready.outs_known i less, h.ready.outs_once i less))) in
-      (
+      let less : i < pow e = omega (arith, outs_many) in
+      subst (λ (os : List ℕ). AllByRecursion (λ a. a < length (outs_of s)) os × Distinct os) (sym (outs_table g.acts i)) (h.ready.outs_known i less, h.ready.outs_once i less))) in (
         record {
           ready = subst IsReady (sym same) h.ready;
           acts = acts;
           sides = sides ∙ ap outs_of (sym spec);
-          names = omega (arith, length-map t.gives.items (λ v. v.items), ap length gives, acts_long 0 (map (λ v. v.items) t.outs.items) (replicate (length (outs_of s)) []),
-              length-replicate {A = List Give} (length (outs_of s)) [], wide);
+          names = omega (
+            arith,
+            length-map t.gives.items (λ v. v.items),
+            ap length gives,
+            acts_long 0 (map (λ v. v.items) t.outs.items) (replicate (length (outs_of s)) []),
+            length-replicate {A = List Give} (length (outs_of s)) [],
+            wide,
+          );
           gives = λ a low. ap (λ gs. get_or gs a []) gives ∙ table_given (map (λ v. v.items) t.outs.items) (length (outs_of s)) a (length-replicate {A = List Give} (length (outs_of s)) []) ok
               ∙ ap (λ k. gives_of (parts_by t).outs k a) (many ∙ ap pow (sym levels_are));
         },

@@ -17,4 +17,3 @@ mod rounds_net;
 
 pub use by_style::plain_net;
 pub use laws::{one_wait_law, plain_law, rounds_law};
-

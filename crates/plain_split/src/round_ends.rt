@@ -83,11 +83,7 @@ pub fn level_ends(
 }
 
 /// The ends of the paths through the outputs of an act.
-pub fn put_ends(
-    alloc: Global,
-    parts: &RoundParts,
-    act: u32,
-) -> Result<Vec<Option<u32>>, AllocError>
+pub fn put_ends(alloc: Global, parts: &RoundParts, act: u32) -> Result<Vec<Option<u32>>, AllocError>
     requires tabled { IsTabled parts.now }
     requires known { act < pow parts.now.levels }
     ensures { IfOk result (λ it. it.items ≡ map (λ a. end_at (parts_by parts.now) (web.Put act a)) ((parts_by parts.now).outs act)) }

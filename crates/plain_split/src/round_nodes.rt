@@ -174,11 +174,7 @@ fn is_shown(parts: &RoundParts, symbol: u32) -> bool
 }
 
 /// The MERGEs of the symbols that two acts or more give.
-fn shows(
-    alloc: Global,
-    parts: &RoundParts,
-    numbers: &RoundNumbers,
-) -> Result<Vec<Node>, AllocError>
+fn shows(alloc: Global, parts: &RoundParts, numbers: &RoundNumbers) -> Result<Vec<Node>, AllocError>
     requires tabled { IsTabled parts.now }
     requires numbered { IsNumbered (parts_by parts.now) numbers.now }
     ensures { IfOk result (λ it. it.items ≡ map (part_of (parts_by parts.now)) (map web.Shows (shown (parts_by parts.now)))) }

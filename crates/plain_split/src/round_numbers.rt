@@ -40,11 +40,7 @@ fn pick(end: Option<u32>, next: &mut u32) -> u32
 }
 
 /// The numbers of paths with these ends.
-fn numbered(
-    alloc: Global,
-    ends: &[Option<u32>],
-    next: &mut u32,
-) -> Result<Vec<u32>, AllocError>
+fn numbered(alloc: Global, ends: &[Option<u32>], next: &mut u32) -> Result<Vec<u32>, AllocError>
     requires { next.old + length ends.now + 1 < 2 ^ 32 }
     ensures numbers { IfOk result (λ it. it.items ≡ numbered next.old ends.now) }
     ensures next { OnOk result (next.new ≡ after_ends next.old ends.now) }

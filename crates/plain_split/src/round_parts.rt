@@ -127,10 +127,6 @@ impl RoundParts {
         if !self.opens {
             return act;
         }
-        if act == 0 {
-            self.rounds() - 1
-        } else {
-            act - 1
-        }
+        if act == 0 { self.rounds() - 1 } else { act - 1 }
     }
 }

@@ -1,5 +1,5 @@
 use Rattle.std.specs.Prelude.{if◌then◌else◌}
-use Rattle.std.proofs.Common.{◌≡◌, ◌<◌, Bool, false, None, sym, ap, ◌∙◌, arith}
+use Rattle.std.proofs.Common.{◌≡◌, false, None, sym, ap, ◌∙◌, arith}
 use Rattle.plain_split.specs.RoundsChart.{is_single, sole, on_put}
 use Rattle.plain_split.specs.Mirror.RoundsTables.{parts_by, end_of}
 use Rattle.plain_split.proofs.RoundsRead.{one_many, single_one_of, go_ends_at, outs_row, outs_low}

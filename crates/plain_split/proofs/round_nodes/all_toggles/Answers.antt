@@ -1,4 +1,4 @@
-use Rattle.std.proofs.Common.{◌≡◌, ◌+◌, ◌++◌, suc, ap, length, sym, ◌∙◌, arith}
+use Rattle.std.proofs.Common.{◌≡◌, ◌+◌, ◌++◌, suc, ap, length, ◌∙◌, arith}
 use Rattle.plain_split.specs.RoundsNet.{pow}
 use Rattle.plain_split.specs.Mirror.RoundsTables.{parts_by, level_numbers}
 use Rattle.plain_split.proofs.RoundsTied.{tree_long, tree_row}

@@ -1,6 +1,6 @@
-use Rattle.std.proofs.Common.{◌≡◌, ◌++◌, ◌∷◌, [], ℕ, true, false, refl, length, get_or, sym, ap, ◌∙◌, arith}
-use Rattle.plain_split.specs.RoundsNet.{pow, leaf, burst_before, To, Go}
-use Rattle.plain_split.specs.Mirror.RoundsTables.{parts_by, number_of, level_numbers}
+use Rattle.std.proofs.Common.{◌≡◌, ◌++◌, ◌∷◌, [], refl, length, ap, ◌∙◌, arith}
+use Rattle.plain_split.specs.RoundsNet.{pow, leaf, burst_before, To}
+use Rattle.plain_split.specs.Mirror.RoundsTables.{parts_by, number_of}
 use Rattle.plain_split.proofs.RoundsDeal.{pow_some}
 use Rattle.plain_split.proofs.RoundsTied.{tree_long, tree_row}
 use Rattle.plain_split.proofs.RoundsBuilt.{iwire_of, gate_list, gate_none, level_long, level_read}

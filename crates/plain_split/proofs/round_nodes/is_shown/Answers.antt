@@ -1,5 +1,5 @@
-use Rattle.std.specs.Prelude.{◌&&◌, not, nat_eq}
-use Rattle.std.proofs.Common.{◌≡◌, true, false, refl, length, get_or, sym, ap, ◌∙◌, arith}
+use Rattle.std.specs.Prelude.{◌&&◌, not}
+use Rattle.std.proofs.Common.{◌≡◌, true, sym, ap, ◌∙◌}
 use Rattle.plain_split.specs.RoundsChart.{is_single, is_out, givers}
 use Rattle.plain_split.specs.Mirror.RoundsTables.{parts_by}
 use Rattle.plain_split.proofs.RoundsRead.{gives_len, side_true}

@@ -1,7 +1,7 @@
-use Rattle.std.proofs.Common.{◌≡◌, ◌++◌, ◌∷◌, [], ℕ, true, false, refl, length, get_or, sym, ap, ◌∙◌, arith, ne_eqb, eq-eqb}
-use Rattle.plain_split.specs.RoundsNet.{leaf, To, Top}
+use Rattle.std.proofs.Common.{◌≡◌, ◌++◌, ◌∷◌, [], true, false, refl, length, get_or, ap, ◌∙◌, arith, ne_eqb, eq-eqb}
+use Rattle.plain_split.specs.RoundsNet.{To, Top}
 use Rattle.plain_split.specs.RoundsChart.{is_single}
-use Rattle.plain_split.specs.Mirror.RoundsTables.{parts_by, number_of, level_numbers}
+use Rattle.plain_split.specs.Mirror.RoundsTables.{parts_by, number_of}
 use Rattle.plain_split.proofs.RoundsRead.{one_long, single_one_of}
 use Rattle.plain_split.proofs.RoundsTied.{tree_row}
 use Rattle.plain_split.proofs.RoundsBuilt.{c_of, join_list, join_none}

@@ -1,10 +1,8 @@
-use Rattle.std.proofs.Common.{◌≡◌, ◌++◌, ◌∷◌, [], ℕ, length, sym, ap, ◌∙◌, arith}
-use Rattle.plain_split.specs.RoundsNet.{pow}
-use Rattle.plain_split.specs.RoundsChart.{givers}
+use Rattle.std.proofs.Common.{length, ◌∙◌, arith}
 use Rattle.plain_split.specs.Mirror.RoundsTables.{parts_by}
 use Rattle.plain_split.proofs.RoundsRead.{row_is, gives_long}
 use Rattle.plain_split.proofs.RoundsTied.{gives_row, acts_known, ports_known, numbers_read}
-use Rattle.plain_split.proofs.RoundsBuilt.{merge_of, show_is, givers_few}
+use Rattle.plain_split.proofs.RoundsBuilt.{show_is, givers_few}
 use Rattle.plain_split.proofs.round_nodes.show.Goals as goal
 
 pub give_numbers-requires-clause-acts : goal.give_numbers-requires-clause-acts

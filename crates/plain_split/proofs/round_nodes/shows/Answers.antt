@@ -1,4 +1,4 @@
-use Rattle.std.proofs.Common.{◌≡◌, ◌++◌, ◌∷◌, [], ℕ, length, sym, ap, ◌∙◌, arith}
+use Rattle.std.proofs.Common.{◌≡◌, ◌++◌, ◌∷◌, [], length, sym, ap, ◌∙◌, arith}
 use Rattle.plain_split.specs.RoundsChart.{count}
 use Rattle.plain_split.specs.Mirror.RoundsTables.{parts_by}
 use Rattle.plain_split.proofs.RoundsBuilt.{show_more, show_left, shows_to}

@@ -1,5 +1,5 @@
-use Rattle.std.proofs.Common.{◌≡◌, ◌++◌, ◌∷◌, [], ℕ, refl, length, sym, ap, ◌∙◌, arith}
-use Rattle.plain_split.specs.Mirror.RoundsTables.{parts_by, number_of, put_numbers}
+use Rattle.std.proofs.Common.{◌++◌, length, ap, ◌∙◌, arith}
+use Rattle.plain_split.specs.Mirror.RoundsTables.{parts_by}
 use Rattle.plain_split.proofs.RoundsTied.{tree_long, tree_row, puts_many, puts_row}
 use Rattle.plain_split.proofs.RoundsBuilt.{fork_of, spread_is, puts_long}
 use Rattle.plain_split.proofs.round_nodes.spread.Goals as goal

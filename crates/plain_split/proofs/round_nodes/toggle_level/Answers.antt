@@ -1,7 +1,4 @@
 use Rattle.std.proofs.Common.{ap, ◌∙◌}
-use Rattle.basic_kinds.specs.declared.kind.Kind.TheVariants as kind
-use Rattle.net_core.specs.declared.spec.NodeSpec.TheVariants.{Kind as Basic}
-use Rattle.net_core.specs.Wiring.{Node}
 use Rattle.plain_split.specs.Mirror.RoundsTables.{toggle_of}
 use Rattle.plain_split.proofs.JoinedSteps.{row_more}
 use Rattle.plain_split.proofs.RoundsBuilt.{toggle_node}

@@ -1,5 +1,5 @@
-use Rattle.std.proofs.Common.{◌≡◌, ◌∷◌, [], ◌+◌, List, ℕ, Bool, true, false, get_or, length, refl, sym, ap, subst, ◌∙◌, arith, ne_eqb, eq-eqb}
-use Rattle.std.specs.Prelude.{IfOk, OnOk, nat_eq}
+use Rattle.std.proofs.Common.{◌≡◌, ◌∷◌, [], List, ℕ, true, false, get_or, length, refl, sym, ap, subst, ◌∙◌, arith, ne_eqb, eq-eqb}
+use Rattle.std.specs.Prelude.{IfOk, OnOk}
 use Rattle.plain_split.specs.RoundsChart.{is_single}
 use Rattle.plain_split.specs.Mirror.RoundsTables.{parts_by}
 use Rattle.plain_split.proofs.RoundsRead.{one_long, single_one_of, single_first, outs_row}

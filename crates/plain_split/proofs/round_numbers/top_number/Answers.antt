@@ -1,4 +1,4 @@
-use Rattle.std.proofs.Common.{◌≡◌, ◌∷◌, [], false, get_or, sym, ap, ◌∙◌, arith}
+use Rattle.std.proofs.Common.{◌≡◌, false, get_or, sym, ap, ◌∙◌, arith}
 use Rattle.plain_split.specs.RoundsChart.{is_single}
 use Rattle.plain_split.specs.Mirror.RoundsTables.{parts_by}
 use Rattle.plain_split.proofs.RoundsRead.{one_many, single_one_of, single_first}

@@ -1,4 +1,4 @@
-use Rattle.std.proofs.Common.{◌≡◌, arith}
+use Rattle.std.proofs.Common.{arith}
 use Rattle.plain_split.proofs.RoundsSteps.{half_power, one_power}
 use Rattle.plain_split.proofs.round_parts.halvings.Goals as goal
 
