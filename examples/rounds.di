@@ -1,0 +1,1 @@
+main := pref*[a?;b!;a?;c!].
