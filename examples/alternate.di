@@ -1,2 +1,2 @@
-# Speaks first, and then answers by b and c in turn.
+# Speaks first, and then answers by c and b in turn.
 main := pref*[b!;a?;c!;a?].

@@ -1,0 +1,2 @@
+# Two ways through one wait, which both give c.
+main := pref*[(a?||b?);(c!||d!)|e?;c!].
