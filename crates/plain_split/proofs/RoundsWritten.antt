@@ -52,11 +52,11 @@ from_one : (b k m : ℕ) → b ≤ m → m < b + k → how_many (λ n. nat_eq n 
 from_one b zero m low high = absurd (omega arith)
 from_one b (suc k) m low high = elim (cases_eq b m) [
   | inl e ↦ omega (
-      arith,
-      ap (λ c. bit c) (eq-eqb b m e),
-      from_same (b + 1) k (λ n. nat_eq n m) (λ n. false) (λ i low high. ne_eqb i m (λ z. omega arith)),
-      many_none (λ (n : ℕ). false) (range_with_len (b + 1) k) (λ n. refl),
-    )
+    arith,
+    ap (λ c. bit c) (eq-eqb b m e),
+    from_same (b + 1) k (λ n. nat_eq n m) (λ n. false) (λ i low high. ne_eqb i m (λ z. omega arith)),
+    many_none (λ (n : ℕ). false) (range_with_len (b + 1) k) (λ n. refl),
+  )
   | inr other ↦ omega (arith, ap (λ c. bit c) (ne_eqb b m other), from_one (b + 1) k m (omega arith) (omega arith))
 ]
 

@@ -20,7 +20,7 @@ returns c =
       ok = (
         is_built c.args.command.now c.args.process.now c.requires.admitted c.requires.alone plain,
         network_of c.args.command.now c.args.process.now c.requires.admitted c.requires.alone c.in_ok-net-in-OneWait.net c.in_ok-in_order-in-OneWait.field-0
-        c.in_ok-net-in-OneWait.ensures.right c.in_ok-net-in-OneWait.ensures.few (c.in_ok-net-in-OneWait.ensures.kinds c.args.process.now has) c.in_ok-in_order-in-OneWait.ensures,
+            c.in_ok-net-in-OneWait.ensures.right c.in_ok-net-in-OneWait.ensures.few (c.in_ok-net-in-OneWait.ensures.kinds c.args.process.now has) c.in_ok-in_order-in-OneWait.ensures,
       );
       refused = tt;
     }
