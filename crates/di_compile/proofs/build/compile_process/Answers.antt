@@ -1,4 +1,3 @@
-use Rattle.std.proofs.Common.{◌≡◌}
 use Rattle.place_graph.specs.Graph.{graph_of}
 use Rattle.plain_split.specs.PlainNet.{HasPlain}
 use Rattle.di_compile.proofs.Built.{plain_style, has_plain, is_drawable, is_built, network_of}
