@@ -5,11 +5,19 @@ mod check;
 mod faults;
 mod followers;
 mod least;
+mod list;
+mod name;
+mod pieces;
 mod places;
 mod projection;
+mod read;
+#[cfg(test)]
+mod read_tests;
 #[cfg(test)]
 mod tests;
 mod words;
 
 pub use check::{BrokenRule, check_rules};
+pub use list::{TraceList, TraceRefusal};
 pub use projection::{in_projection, project};
+pub use read::read_traces;
