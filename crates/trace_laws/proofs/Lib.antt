@@ -10,3 +10,4 @@ pub mod Naming
 pub mod Listings
 pub mod WholeListing
 pub mod Turns
+pub mod Verdicts

@@ -1,6 +1,6 @@
 -- What the lines of a text are read as.
-use Rattle.std.proofs.Common.{◌≡◌, ◌≢◌, ℕ, ◌+◌, ◌<◌, ◌≤◌, Bool, true, false, ◌&&◌, ◌||◌, eqb, cond, List, [], ◌∷◌, ◌++◌, length, map, get_or, Result, Ok, Err, refl, sym, ◌∙◌, ap, subst, append_assoc, append-nil, length-append, ⊎_elim, ◌⊎◌, inl, inr, arith}
-use Rattle.std.specs.Prelude.{IsTrue, codes}
+use Rattle.std.proofs.Common.{◌≡◌, ◌≢◌, ℕ, zero, suc, ◌+◌, ◌<◌, ◌≤◌, Bool, true, false, ◌&&◌, ◌||◌, eqb, cond, List, [], ◌∷◌, ◌++◌, length, map, get_or, Result, Ok, Err, refl, sym, ◌∙◌, ap, subst, append_assoc, append-nil, length-append, ⊎_elim, ◌⊎◌, inl, inr, arith}
+use Rattle.std.specs.Prelude.{IsTrue, codes, nat_le, nat_lt, nat_eq}
 use Rattle.std.specs.List.{AllByRecursion, IsDistinct, list_all, position_or_len}
 use Rattle.std.specs.Str.{bytes_eq}
 use Rattle.std.proofs.lemmas.Bool.{cases_Bool, and_parts, ltb-true, lt-ltb, eqb-true, eq-eqb, or_left}
@@ -21,10 +21,10 @@ module _ {A B : Type 0} where
   then_err (Ok a) f n e = inr (a, refl, e)
   then_err (Err m) f n e = inl (let s : m ≡ n = cc in ap Err s)
 
-ok_same : {A : Type 0} (a b : A) → Ok {E = ℕ} a ≡ Ok b → a ≡ b
+ok_same : {A : Type 0} (a b : A) → ◌≡◌ {A = Result A ℕ} (Ok a) (Ok b) → a ≡ b
 ok_same a b e = cc
 
-err_same : {A : Type 0} (m n : ℕ) → Err {T = A} m ≡ Err n → m ≡ n
+err_same : {A : Type 0} (m n : ℕ) → ◌≡◌ {A = Result A ℕ} (Err m) (Err n) → m ≡ n
 err_same m n e = cc
 
 -- ---- the bytes of names
@@ -33,7 +33,7 @@ tails_apart c f [] h = tt
 tails_apart c f (b ∷ bs) h = let p = and_parts (is_tail b) (list_all is_tail bs) h in (λ e. true_false (sym p.0 ∙ ap is_tail e ∙ f), tails_apart c f bs p.1)
 
 letter_tail : (b : ℕ) → is_letter b ≡ true → is_tail b ≡ true
-letter_tail b h = ap (λ l. (l || _) || _) h
+letter_tail b h = or_left (is_letter b || (nat_le 48 b && nat_le b 57)) (nat_eq b 95) (or_left (is_letter b) (nat_le 48 b && nat_le b 57) h)
 
 begins : (n : List ℕ) → IsTrue (is_name n) → begins_with_letter n ≡ true
 begins n h = (and_parts _ (begins_with_letter n) (and_parts _ _ h).0).1
@@ -66,7 +66,7 @@ words_line [] h = tt
 words_line (w ∷ []) h = h.0
 words_line (w ∷ v ∷ ws) h = lines_append w (32 ∷ line_of (v ∷ ws)) h.0 (blank, words_line (v ∷ ws) h.1)
   where
-    blank : 32 ≡ 10 → ⊥
+    blank : ◌≡◌ {A = ℕ} 32 10 → ⊥
     blank e = omega (arith, e)
 
 -- ---- the header of a line
@@ -140,7 +140,7 @@ AreKnown names trace = AllByRecursion (λ a. a < length names) trace
 
 symbol_read : (line : ℕ) (names : List (List ℕ)) (a : ℕ) → IsDistinct bytes_eq names → a < length names → symbol_of line names (name_at names a) ≡ Ok a
 symbol_read line names a d l =
-    ap (λ k. cond (Rattle.std.specs.Prelude.nat_lt k (length names)) (Ok k) (Err line)) (own_place names a d l)
+    ap (λ k. cond (nat_lt k (length names)) (Ok k) (Err line)) (own_place names a d l)
     ∙ ap (λ b. cond b (Ok a) (Err line)) (lt-ltb a (length names) l)
 
 read_symbol : (line : ℕ) (names : List (List ℕ)) (w : List ℕ) (a : ℕ) → symbol_of line names w ≡ Ok a → (a < length names) × (name_at names a ≡ w)
@@ -149,10 +149,10 @@ read_symbol line names w a e = ⊎_elim
       let l = ltb-true (position_or_len (bytes_eq w) names) (length names) t in
       (subst (λ k. k < length names) s l, subst (λ k. name_at names k ≡ w) s (found_name w names l)))
     (λ f. ok_err (sym (sym (ap (λ b. cond b (Ok (position_or_len (bytes_eq w) names)) (Err line)) f) ∙ e)))
-    (cases_Bool (Rattle.std.specs.Prelude.nat_lt (position_or_len (bytes_eq w) names) (length names)))
+    (cases_Bool (nat_lt (position_or_len (bytes_eq w) names) (length names)))
 
 symbol_line : (line : ℕ) (names : List (List ℕ)) (w : List ℕ) (n : ℕ) → symbol_of line names w ≡ Err n → n ≡ line
-symbol_line line names w n e = by (Rattle.std.specs.Prelude.nat_lt (position_or_len (bytes_eq w) names) (length names)) e
+symbol_line line names w n e = by (nat_lt (position_or_len (bytes_eq w) names) (length names)) e
   where
     by : (b : Bool) → cond b (Ok (position_or_len (bytes_eq w) names)) (Err line) ≡ Err n → n ≡ line
     by true h = ok_err h

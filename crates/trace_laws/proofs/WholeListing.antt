@@ -4,11 +4,13 @@ use Rattle.std.specs.Prelude.{codes}
 use Rattle.std.specs.List.{AllByRecursion, IsDistinct, join_with_byte}
 use Rattle.std.specs.Str.{bytes_eq}
 use Rattle.std.proofs.lemmas.Bool.{cases_order}
+use Rattle.std.proofs.lemmas.List.{length-map}
+use Rattle.std.proofs.lemmas.List.Splits.{join_with_byte-slice_split}
 use Rattle.cmd_tree.specs.declared.tree.Dir.{Dir}
 use Rattle.cmd_tree.specs.declared.tree.Dir.TheVariants.{Input, Output}
 use Rattle.trace_laws.specs.ListText.{line_of, text_of, trace_line, lines_of, IsLine, IsListText, Begins, IsFaultyLine}
-use Rattle.trace_laws.specs.Mirror.Reading.{pieces, and_then, Headed, headed, with_traces, trace_of, Listing, listed, listing, dirs_of}
-use Rattle.trace_laws.proofs.Cuts.{IsPiece, cut, clean_pieces, lines_cut, lines_back, lines_rest}
+use Rattle.trace_laws.specs.Mirror.Reading.{pieces, and_then, Headed, headed, with_traces, trace_of, Listing, after_outputs, after_inputs, listed, listing, dirs_of}
+use Rattle.trace_laws.proofs.Cuts.{IsPiece, cut, clean_pieces, one_piece, lines_cut, lines_back, lines_rest}
 use Rattle.trace_laws.proofs.Naming.{ok_err, AreNames, distinct_none, distinct_front}
 use Rattle.trace_laws.proofs.Listings.{then_ok, then_err, name_piece, names_pieces, words_line, header_read, read_header, refused_header, AllKnown, AreKnown, names_of, traces_read, read_traces, refused_traces, Header, Finished, Unheaded, Untraced, name_at}
 
@@ -30,12 +32,15 @@ text_append (l ∷ ls) ms = ap (λ t. l ++ 10 ∷ t) (text_append ls ms) ∙ sym
 
 -- ---- the two words
 in_piece : (c : ℕ) → c < 100 → IsPiece c (codes "in")
-in_piece c l = ((λ e. omega (arith, e, l)), (λ e. omega (arith, e, l)), tt)
+in_piece c l = ((λ e. omega (arith, e, l)), ((λ e. omega (arith, e, l)), tt))
 
 out_piece : (c : ℕ) → c < 100 → IsPiece c (codes "out")
-out_piece c l = ((λ e. omega (arith, e, l)), (λ e. omega (arith, e, l)), (λ e. omega (arith, e, l)), tt)
+out_piece c l = ((λ e. omega (arith, e, l)), ((λ e. omega (arith, e, l)), ((λ e. omega (arith, e, l)), tt)))
 
 -- ---- the lines of a list
+abbrev listed_as : ℕ → List (List ℕ) → List (List ℕ) → Result Listing ℕ
+listed_as n names ts = Ok (record { inputs = n; names = names; traces = ts })
+
 module _ (inputs outputs : List (List ℕ)) (formed : AreNames (inputs ++ outputs)) (distinct : IsDistinct bytes_eq (inputs ++ outputs)) where
   traces_lines : (vs : List (List ℕ)) → AllKnown (inputs ++ outputs) vs → AllByRecursion IsLine (map (trace_line (inputs ++ outputs)) vs)
   traces_lines [] k = tt
@@ -44,44 +49,31 @@ module _ (inputs outputs : List (List ℕ)) (formed : AreNames (inputs ++ output
   are_lines : (vs : List (List ℕ)) → AllKnown (inputs ++ outputs) vs → AllByRecursion IsLine (lines_of inputs outputs vs)
   are_lines vs k = (
     words_line (codes "in" ∷ inputs) (in_piece 10 (omega arith), names_pieces 10 refl inputs (all_front _ inputs outputs formed)),
-    words_line (codes "out" ∷ outputs) (out_piece 10 (omega arith), names_pieces 10 refl outputs (all_back _ inputs outputs formed)),
-    traces_lines vs k,
+    (words_line (codes "out" ∷ outputs) (out_piece 10 (omega arith), names_pieces 10 refl outputs (all_back _ inputs outputs formed)), traces_lines vs k),
   )
 
   -- lines of a list are read, whatever follows
   front_read : (vs : List (List ℕ)) (m : List ℕ) (ms : List (List ℕ)) → AllKnown (inputs ++ outputs) vs
-      → listed (lines_of inputs outputs vs ++ m ∷ ms)
-        ≡ and_then (with_traces (3 + length vs) (inputs ++ outputs) vs (m ∷ ms)) (λ ts. Ok (record { inputs = length inputs; names = inputs ++ outputs; traces = ts }))
+      → listed (lines_of inputs outputs vs ++ m ∷ ms) ≡ and_then (with_traces (3 + length vs) (inputs ++ outputs) vs (m ∷ ms)) (listed_as (length inputs) (inputs ++ outputs))
   front_read vs m ms k =
-      ap (λ r. and_then r second) (header_read 1 (codes "in") [] inputs (line_of (codes "out" ∷ outputs)) (map (trace_line (inputs ++ outputs)) vs ++ m ∷ ms) (in_piece 32 (omega arith)) (all_front _ inputs outputs formed) (distinct_front inputs outputs distinct))
+      ap (λ r. and_then r after_inputs) (header_read 1 (codes "in") [] inputs (line_of (codes "out" ∷ outputs)) (map (trace_line (inputs ++ outputs)) vs ++ m ∷ ms) (in_piece 32 (omega arith)) (all_front _ inputs outputs formed) (distinct_front inputs outputs distinct))
       ∙ outputs_read (map (trace_line (inputs ++ outputs)) vs ++ m ∷ ms) (some vs)
-      ∙ ap (λ r. and_then r third) (traces_read 3 (inputs ++ outputs) [] vs m ms formed distinct k)
+      ∙ ap (λ r. and_then r (listed_as (length inputs) (inputs ++ outputs))) (traces_read 3 (inputs ++ outputs) [] vs m ms formed distinct k)
     where
-      third : List (List ℕ) → Result Listing ℕ
-      third ts = Ok (record { inputs = length inputs; names = inputs ++ outputs; traces = ts })
-
-      second : Headed → Result Listing ℕ
-      second h = and_then (headed 2 (codes "out") h.names h.lines) (λ k. and_then (with_traces 3 k.names [] k.lines) (λ ts. Ok (record { inputs = length h.names; names = k.names; traces = ts })))
-
       some : (us : List (List ℕ)) → (q : List ℕ) × (qs : List (List ℕ)) × (map (trace_line (inputs ++ outputs)) us ++ m ∷ ms ≡ q ∷ qs)
       some [] = (m, ms, refl)
       some (u ∷ us) = (trace_line (inputs ++ outputs) u, map (trace_line (inputs ++ outputs)) us ++ m ∷ ms, refl)
 
       outputs_read : (ps : List (List ℕ)) → (q : List ℕ) × (qs : List (List ℕ)) × (ps ≡ q ∷ qs)
-          → and_then (headed 2 (codes "out") inputs (line_of (codes "out" ∷ outputs) ∷ ps)) (λ k. and_then (with_traces 3 k.names [] k.lines) (λ ts. Ok (record { inputs = length inputs; names = k.names; traces = ts })))
-            ≡ and_then (with_traces 3 (inputs ++ outputs) [] ps) (λ ts. Ok (record { inputs = length inputs; names = inputs ++ outputs; traces = ts }))
+          → and_then (headed 2 (codes "out") inputs (line_of (codes "out" ∷ outputs) ∷ ps)) (after_outputs (length inputs)) ≡ after_outputs (length inputs) (record { names = inputs ++ outputs; lines = ps })
       outputs_read ps (q, qs, e) =
-          subst (λ rs. and_then (headed 2 (codes "out") inputs (line_of (codes "out" ∷ outputs) ∷ rs)) (λ k. and_then (with_traces 3 k.names [] k.lines) (λ ts. Ok (record { inputs = length inputs; names = k.names; traces = ts })))
-            ≡ and_then (with_traces 3 (inputs ++ outputs) [] rs) (λ ts. Ok (record { inputs = length inputs; names = inputs ++ outputs; traces = ts }))) (sym e)
-            (ap (λ r. and_then r (λ k. and_then (with_traces 3 k.names [] k.lines) (λ ts. Ok (record { inputs = length inputs; names = k.names; traces = ts })))) (header_read 2 (codes "out") inputs outputs q qs (out_piece 32 (omega arith)) (all_back _ inputs outputs formed) distinct))
+          subst (λ rs. and_then (headed 2 (codes "out") inputs (line_of (codes "out" ∷ outputs) ∷ rs)) (after_outputs (length inputs)) ≡ after_outputs (length inputs) (record { names = inputs ++ outputs; lines = rs })) (sym e)
+            (ap (λ r. and_then r (after_outputs (length inputs))) (header_read 2 (codes "out") inputs outputs q qs (out_piece 32 (omega arith)) (all_back _ inputs outputs formed) distinct))
 
   whole_text : (vs : List (List ℕ)) → AllKnown (inputs ++ outputs) vs → IsListText (text_of (lines_of inputs outputs vs)) (inputs ++ outputs) (replicate (length inputs) Input ++ replicate (length outputs) Output) vs
   whole_text vs k = record { inputs = inputs; outputs = outputs; numbered = refl; directed = refl; formed = formed; distinct = distinct; known = k; text = refl }
 
 -- ---- a text is read as its list
-listing_of : List (List ℕ) → List (List ℕ) → List (List ℕ) → Listing
-listing_of inputs names traces = record { inputs = length inputs; names = names; traces = traces }
-
 pub text_read : (bytes : List ℕ) (names : List (List ℕ)) (dirs : List Dir) (traces : List (List ℕ)) (w : IsListText bytes names dirs traces) → listing bytes ≡ Ok (record { inputs = length w.inputs; names = names; traces = traces })
 text_read bytes names dirs traces w =
     let d : IsDistinct bytes_eq (w.inputs ++ w.outputs) = subst (IsDistinct bytes_eq) w.numbered w.distinct in
@@ -95,9 +87,9 @@ text_read bytes names dirs traces w =
 -- ---- what is read is the list of the text
 pub read_text : (bytes : List ℕ) (r : Listing) → listing bytes ≡ Ok r → IsListText bytes r.names (dirs_of r) r.traces
 read_text bytes r e =
-    let a = then_ok (headed 1 (codes "in") [] (pieces 10 bytes)) _ r e in
-    let b = then_ok (headed 2 (codes "out") a.0.names a.0.lines) _ r a.2 in
-    let c = then_ok (with_traces 3 b.0.names [] b.0.lines) _ r b.2 in
+    let a = then_ok (headed 1 (codes "in") [] (pieces 10 bytes)) after_inputs r e in
+    let b = then_ok (headed 2 (codes "out") a.0.names a.0.lines) (after_outputs (length a.0.names)) r a.2 in
+    let c = then_ok (with_traces 3 b.0.names [] b.0.lines) (listed_as (length a.0.names) b.0.names) r b.2 in
     let h = read_header 1 (codes "in") [] (pieces 10 bytes) a.0 distinct_none a.1 in
     let k = read_header 2 (codes "out") a.0.names a.0.lines b.0 h.put.distinct b.1 in
     let t = read_traces 3 b.0.names [] b.0.lines c.0 c.1 in
@@ -173,16 +165,16 @@ fault bytes n before line left e p number b always = record {
           ⊎ ((bytes ≡ text_of before ++ line) × ((names : List (List ℕ)) (dirs : List Dir) (traces : List (List ℕ)) → IsListText bytes names dirs traces → ⊥))
     by [] q a = inr (at_end q, no_text)
     by (m ∷ ms) q (inl z) = absurd (cc)
-    by (m ∷ ms) q (inr a) = inl (join_with_byte 10 (m ∷ ms), sym (Rattle.std.proofs.lemmas.List.Splits.join_with_byte-slice_split 10 bytes) ∙ ap (join_with_byte 10) (q ∙ sym (append_assoc before (line ∷ []) (m ∷ ms))) ∙ lines_rest (before ++ line ∷ []) ms m, no_more a)
+    by (m ∷ ms) q (inr a) = inl (join_with_byte 10 (m ∷ ms), sym (join_with_byte-slice_split 10 bytes) ∙ ap (join_with_byte 10) (q ∙ sym (append_assoc before (line ∷ []) (m ∷ ms))) ∙ lines_rest (before ++ line ∷ []) ms m, no_more a)
 
 pub refused_line : (bytes : List ℕ) (n : ℕ) → listing bytes ≡ Err n → IsFaultyLine bytes n
-refused_line bytes n e = ⊎_elim first_refused (λ s. ⊎_elim (second_refused s.0 s.1) (λ t. ⊎_elim (third_refused s.0 s.1 t.0 t.1) (λ u. ok_err u.2) (then_err (with_traces 3 t.0.names [] t.0.lines) _ n t.2)) (then_err (headed 2 (codes "out") s.0.names s.0.lines) _ n s.2)) (then_err (headed 1 (codes "in") [] (pieces 10 bytes)) _ n e)
+refused_line bytes n e = ⊎_elim first_refused (λ s. ⊎_elim (second_refused s.0 s.1) (λ t. ⊎_elim (third_refused s.0 s.1 t.0 t.1) (λ u. ok_err u.2) (then_err (with_traces 3 t.0.names [] t.0.lines) (listed_as (length s.0.names) t.0.names) n t.2)) (then_err (headed 2 (codes "out") s.0.names s.0.lines) (after_outputs (length s.0.names)) n s.2)) (then_err (headed 1 (codes "in") [] (pieces 10 bytes)) after_inputs n e)
   where
     first_refused : headed 1 (codes "in") [] (pieces 10 bytes) ≡ Err n → IsFaultyLine bytes n
     first_refused f =
         let c = cut 10 bytes in
         let u = refused_header 1 (codes "in") [] c.first c.more n (ap (headed 1 (codes "in") []) (sym c.is) ∙ f) in
-        fault bytes n [] c.first c.more e c.is u.number nothing_begins (⊎_elim (λ z. inl z) (λ a. inr (λ m ms. (1, ap (λ r. and_then r _) (a m ms)))) u.always)
+        fault bytes n [] c.first c.more e c.is u.number nothing_begins (⊎_elim (λ z. inl z) (λ a. inr (λ m ms. (1, ap (λ r. and_then r after_inputs) (a m ms)))) u.always)
 
     second_refused : (a : Headed) → headed 1 (codes "in") [] (pieces 10 bytes) ≡ Ok a → headed 2 (codes "out") a.names a.lines ≡ Err n → IsFaultyLine bytes n
     second_refused a o f =
@@ -190,7 +182,7 @@ refused_line bytes n e = ⊎_elim first_refused (λ s. ⊎_elim (second_refused 
         let u = refused_header 2 (codes "out") a.names h.next h.more n (ap (headed 2 (codes "out") a.names) (sym h.left) ∙ f) in
         let d : IsDistinct bytes_eq h.own = subst (IsDistinct bytes_eq) h.put.is h.put.distinct in
         fault bytes n (line_of (codes "in" ∷ h.own) ∷ []) h.next h.more e (h.is ∙ ap (λ ls. line_of (codes "in" ∷ h.own) ∷ ls) h.left) u.number (header_begins h.own h.put.formed d)
-          (⊎_elim (λ z. inl z) (λ b. inr (λ m ms. (2, ap (λ r. and_then r _) (header_read 1 (codes "in") [] h.own h.next (m ∷ ms) (in_piece 32 (omega arith)) h.put.formed d) ∙ ap (λ r. and_then r _) (subst (λ ns. headed 2 (codes "out") ns (h.next ∷ m ∷ ms) ≡ Err 2) h.put.is (b m ms))))) u.always)
+          (⊎_elim (λ z. inl z) (λ b. inr (λ m ms. (2, ap (λ r. and_then r after_inputs) (header_read 1 (codes "in") [] h.own h.next (m ∷ ms) (in_piece 32 (omega arith)) h.put.formed d) ∙ ap (λ r. and_then r (after_outputs (length h.own))) (subst (λ ns. headed 2 (codes "out") ns (h.next ∷ m ∷ ms) ≡ Err 2) h.put.is (b m ms))))) u.always)
 
     third_refused : (a : Headed) → headed 1 (codes "in") [] (pieces 10 bytes) ≡ Ok a → (b : Headed) → headed 2 (codes "out") a.names a.lines ≡ Ok b → with_traces 3 b.names [] b.lines ≡ Err n → IsFaultyLine bytes n
     third_refused a o b p f =
@@ -202,17 +194,18 @@ refused_line bytes n e = ⊎_elim first_refused (λ s. ⊎_elim (second_refused 
         let g : AreNames (h.own ++ k.own) = all_append _ h.own k.own h.put.formed k.put.formed in
         let v : AllKnown (h.own ++ k.own) u.vs = subst (λ q. AllKnown q u.vs) ns u.known in
         let before = lines_of h.own k.own u.vs in
+        let dirs : List Dir = replicate (length h.own) Input ++ replicate (length k.own) Output in
         fault bytes n before u.last u.left e
           (h.is ∙ (λ i. line_of (codes "in" ∷ h.own) ∷ (k.is ∙ (λ j. line_of (codes "out" ∷ k.own) ∷ (k.left ∙ u.is ∙ ap (λ q. map (trace_line q) u.vs ++ u.last ∷ u.left) ns) j)) i))
           (u.number ∙ counted h.own k.own u.vs b.names)
-          (begins_front before [] (h.own ++ k.own) _ u.vs (subst (λ ls. IsListText (text_of ls) (h.own ++ k.own) _ u.vs) (sym (append-nil before)) (whole_text h.own k.own g d u.vs v)))
-          (⊎_elim (λ z. inl z) (λ w. inr (λ m ms. (n, front_read h.own k.own g d u.vs u.last (m ∷ ms) v ∙ ap (λ r. and_then r _) (again h.own k.own b.names u.vs u.last m ms ns u.number w)))) u.always)
+          (begins_front before [] (h.own ++ k.own) dirs u.vs (subst (λ ls. IsListText (text_of ls) (h.own ++ k.own) dirs u.vs) (sym (append-nil before)) (whole_text h.own k.own g d u.vs v)))
+          (⊎_elim (λ z. inl z) (λ w. inr (λ m ms. (n, front_read h.own k.own g d u.vs u.last (m ∷ ms) v ∙ ap (λ r. and_then r (listed_as (length h.own) (h.own ++ k.own))) (again h.own k.own b.names u.vs u.last m ms ns u.number w)))) u.always)
       where
         counted : (xs ys us names : List (List ℕ)) → 3 + length us ≡ length (lines_of xs ys us) + 1
-        counted xs ys us names = omega (arith, Rattle.std.proofs.lemmas.List.length-map (trace_line (xs ++ ys)) us)
+        counted xs ys us names = omega (arith, length-map us (trace_line (xs ++ ys)))
 
         again : (xs ys names us : List (List ℕ)) (last m : List ℕ) (ms : List (List ℕ)) → names ≡ xs ++ ys → n ≡ 3 + length us → trace_of n names last ≡ Err n → with_traces (3 + length us) (xs ++ ys) us (last ∷ m ∷ ms) ≡ Err n
-        again xs ys names us last m ms q l t = ap (λ r. and_then r _) (subst (λ j. trace_of j (xs ++ ys) last ≡ Err n) l (subst (λ ns. trace_of n ns last ≡ Err n) q t))
+        again xs ys names us last m ms q l t = ap (λ r. and_then r (λ t. with_traces (3 + length us + 1) (xs ++ ys) (us ++ t ∷ []) (m ∷ ms))) (subst (λ j. trace_of j (xs ++ ys) last ≡ Err n) l (subst (λ ns. trace_of n ns last ≡ Err n) q t))
 
 -- ---- a text has no faulty line, and there is one first one
 pub no_fault : (bytes : List ℕ) (names : List (List ℕ)) (dirs : List Dir) (traces : List (List ℕ)) (n : ℕ) → IsListText bytes names dirs traces → IsFaultyLine bytes n → ⊥
@@ -252,7 +245,7 @@ shape bytes n f = by f.faulty
       left = [];
       number = f.number;
       begins = f.begins;
-      is = ap (pieces 10) e ∙ lines_cut f.before f.line (all_front IsLine f.before (f.line ∷ []) f.are_lines) ∙ ap (λ ps. f.before ++ ps) (Rattle.trace_laws.proofs.Cuts.one_piece 10 f.line (all_back IsLine f.before (f.line ∷ []) f.are_lines).0);
+      is = ap (pieces 10) e ∙ lines_cut f.before f.line (all_front IsLine f.before (f.line ∷ []) f.are_lines) ∙ ap (λ ps. f.before ++ ps) (one_piece 10 f.line (all_back IsLine f.before (f.line ∷ []) f.are_lines).0);
       ends = inl refl;
     }
 
@@ -292,9 +285,17 @@ text_or_line bytes = by (listing bytes) refl
 -- a text has one list
 pub one_list : (bytes : List ℕ) (names ns : List (List ℕ)) (dirs ds : List Dir) (traces ts : List (List ℕ)) → IsListText bytes names dirs traces → IsListText bytes ns ds ts → (names ≡ ns) × (dirs ≡ ds) × (traces ≡ ts)
 one_list bytes names ns dirs ds traces ts w v =
-    let e : Ok {E = ℕ} (record { inputs = length w.inputs; names = names; traces = traces }) ≡ Ok (record { inputs = length v.inputs; names = ns; traces = ts }) = sym (text_read bytes names dirs traces w) ∙ text_read bytes ns ds ts v in
-    let s : record { inputs = length w.inputs; names = names; traces = traces } ≡ record { inputs = length v.inputs; names = ns; traces = ts } = cc in
+    let e : ◌≡◌ {A = Result Listing ℕ} (Ok (record { inputs = length w.inputs; names = names; traces = traces })) (Ok (record { inputs = length v.inputs; names = ns; traces = ts })) = sym (text_read bytes names dirs traces w) ∙ text_read bytes ns ds ts v in
+    let s : ◌≡◌ {A = Listing} (record { inputs = length w.inputs; names = names; traces = traces }) (record { inputs = length v.inputs; names = ns; traces = ts }) = cc in
     let n : names ≡ ns = ap (λ (r : Listing). r.names) s in
     let i : length w.inputs ≡ length v.inputs = ap (λ (r : Listing). r.inputs) s in
     let o : length w.outputs ≡ length v.outputs = omega (arith, i, ap length n, ap length w.numbered, ap length v.numbered, length-append w.inputs w.outputs, length-append v.inputs v.outputs) in
     (n, w.directed ∙ (λ k. replicate (i k) Input ++ replicate (o k) Output) ∙ sym v.directed, ap (λ (r : Listing). r.traces) s)
+
+-- ---- the parts of a list, read one after another
+pub parts_read : (bytes : List ℕ) (ns ms ls ks ts : List (List ℕ)) → headed 1 (codes "in") [] (pieces 10 bytes) ≡ Ok (record { names = ns; lines = ls }) → headed 2 (codes "out") ns ls ≡ Ok (record { names = ms; lines = ks }) → with_traces 3 ms [] ks ≡ Ok ts
+    → listing bytes ≡ Ok (record { inputs = length ns; names = ms; traces = ts })
+parts_read bytes ns ms ls ks ts e f g = ap (λ r. and_then r after_inputs) e ∙ ap (λ r. and_then r (after_outputs (length ns))) f ∙ ap (λ r. and_then r (listed_as (length ns) ms)) g
+
+pub names_grow : (line : ℕ) (word : List ℕ) (names ls : List (List ℕ)) (h : Headed) → IsDistinct bytes_eq names → headed line word names ls ≡ Ok h → length names ≤ length h.names
+names_grow line word names ls h d e = let p = read_header line word names ls h d e in omega (arith, ap length p.put.is, length-append names p.own)

@@ -4,6 +4,7 @@
 mod check;
 mod faults;
 mod followers;
+mod laws;
 mod least;
 mod list;
 mod name;
@@ -18,6 +19,7 @@ mod tests;
 mod words;
 
 pub use check::{BrokenRule, check_rules};
+pub use laws::list_or_faulty_line;
 pub use list::{TraceList, TraceRefusal};
 pub use projection::{in_projection, project};
 pub use read::read_traces;

@@ -71,12 +71,14 @@ pub record Listing : Type 0 where
   pub names : List (List ℕ)
   pub traces : List (List ℕ)
 
+abbrev pub after_outputs : ℕ → Headed → Result Listing ℕ
+after_outputs n k = and_then (with_traces 3 k.names [] k.lines) (λ ts. Ok (record { inputs = n; names = k.names; traces = ts }))
+
+abbrev pub after_inputs : Headed → Result Listing ℕ
+after_inputs h = and_then (headed 2 (codes "out") h.names h.lines) (after_outputs (length h.names))
+
 abbrev pub listed : List (List ℕ) → Result Listing ℕ
-listed lines =
-    and_then (headed 1 (codes "in") [] lines) (λ h.
-    and_then (headed 2 (codes "out") h.names h.lines) (λ k.
-    and_then (with_traces 3 k.names [] k.lines) (λ ts.
-    Ok (record { inputs = length h.names; names = k.names; traces = ts }))))
+listed lines = and_then (headed 1 (codes "in") [] lines) after_inputs
 
 abbrev pub listing : List ℕ → Result Listing ℕ
 listing bytes = listed (pieces 10 bytes)

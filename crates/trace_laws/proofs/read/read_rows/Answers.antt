@@ -1,5 +1,5 @@
-use Rattle.std.proofs.Common.{◌≡◌, ◌+◌, ◌∷◌, ◌++◌, [], ◌∙◌, sym, ap, subst, arith}
-use Rattle.std.specs.Option.{option_copied}
+use Rattle.std.proofs.Common.{◌≡◌, ◌+◌, ◌∷◌, ◌++◌, [], length, ◌∙◌, sym, ap, subst, arith}
+use Rattle.std.specs.Option.{option_copied, IfSome}
 use Rattle.std.proofs.lemmas.List.{map-append}
 use Rattle.std.proofs.lemmas.Result.{err_from_is_err_and}
 use Rattle.trace_laws.specs.Listed.{numbers, rows}
@@ -27,5 +27,5 @@ loop-more-preserved c =
         ∙ sym read
         ∙ c.loop-more.invariant.same;
       kept = c.in_ok-read_trace.ensures.same ∙ c.loop-more.invariant.kept;
-      few = let s = c.first_piece.ensures.sizes in omega (arith, c.loop-more.invariant.few);
+      few = let sizes = subst (λ r. IfSome r (λ rest. length c.first_piece.result.0.now + length rest.now + 1 ≡ length c.loop-more.rest.now)) c.in-Some.is c.first_piece.ensures.sizes in omega (arith, sizes, c.loop-more.invariant.few);
     }

@@ -1,0 +1,16 @@
+//! Laws of the definitions in `specs/`: each function here does nothing, and its contract is the law.
+ghost use Rattle.std.specs.Prelude.{◌≡◌, ◌⊎◌, ℕ, List};
+ghost use Rattle.cmd_tree.specs.declared.tree.Dir.{Dir};
+ghost use Rattle.trace_laws.specs.ListText.{IsListText, IsFaultyLine};
+
+/// Bytes are the text of one list, or they have one first faulty line.
+pub fn list_or_faulty_line()
+    ensures either { (bytes : List ℕ) →
+        ((names : List (List ℕ)) × (dirs : List Dir) × (traces : List (List ℕ)) × IsListText bytes names dirs traces)
+        ⊎ ((n : ℕ) × IsFaultyLine bytes n) }
+    ensures not_both { (bytes : List ℕ) (names : List (List ℕ)) (dirs : List Dir) (traces : List (List ℕ)) (n : ℕ) →
+        IsListText bytes names dirs traces → IsFaultyLine bytes n → ⊥ }
+    ensures one_list { (bytes : List ℕ) (names ns : List (List ℕ)) (dirs ds : List Dir) (traces ts : List (List ℕ)) →
+        IsListText bytes names dirs traces → IsListText bytes ns ds ts → (names ≡ ns) × (dirs ≡ ds) × (traces ≡ ts) }
+    ensures one_line { (bytes : List ℕ) (m n : ℕ) → IsFaultyLine bytes m → IsFaultyLine bytes n → m ≡ n }
+{}
