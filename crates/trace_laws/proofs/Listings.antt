@@ -1,12 +1,12 @@
 -- What the lines of a text are read as.
-use Rattle.std.proofs.Common.{◌≡◌, ◌≢◌, ℕ, zero, suc, ◌+◌, ◌<◌, ◌≤◌, Bool, true, false, ◌&&◌, ◌||◌, eqb, cond, List, [], ◌∷◌, ◌++◌, length, map, get_or, Result, Ok, Err, refl, sym, ◌∙◌, ap, subst, append_assoc, append-nil, length-append, ⊎_elim, ◌⊎◌, inl, inr, arith}
-use Rattle.std.specs.Prelude.{IsTrue, codes, nat_le, nat_lt, nat_eq}
+use Rattle.std.proofs.Common.{◌≡◌, ℕ, zero, suc, ◌+◌, ◌<◌, Bool, true, false, ◌&&◌, ◌||◌, eqb, cond, List, [], ◌∷◌, ◌++◌, length, map, get_or, Result, Ok, Err, refl, sym, ◌∙◌, ap, subst, append_assoc, append-nil, length-append, ⊎_elim, ◌⊎◌, inl, inr, arith}
+use Rattle.std.specs.Prelude.{IsTrue, nat_le, nat_lt, nat_eq}
 use Rattle.std.specs.List.{AllByRecursion, IsDistinct, list_all, position_or_len}
 use Rattle.std.specs.Str.{bytes_eq}
-use Rattle.std.proofs.lemmas.Bool.{cases_Bool, and_parts, ltb-true, lt-ltb, eqb-true, eq-eqb, or_left}
+use Rattle.std.proofs.lemmas.Bool.{cases_Bool, and_parts, ltb-true, lt-ltb, eqb-true, or_left}
 use Rattle.std.proofs.lemmas.Slice.Eq.{bytes_eq-Decides}
-use Rattle.cmd_tree.specs.Limits.{is_name, is_tail, is_letter, is_word, begins_with_letter}
-use Rattle.trace_laws.specs.ListText.{line_of, text_of, trace_line, IsLine}
+use Rattle.cmd_tree.specs.Limits.{is_name, is_tail, is_letter, begins_with_letter}
+use Rattle.trace_laws.specs.ListText.{line_of, trace_line, IsLine}
 use Rattle.trace_laws.specs.Mirror.Reading.{pieces, and_then, with_names, with_header, Headed, headed, symbol_of, with_symbols, trace_of, with_traces}
 use Rattle.trace_laws.proofs.Cuts.{IsPiece, words_cut, words_back}
 use Rattle.trace_laws.proofs.Naming.{true_false, ok_err, AreNames, Put, put_names, names_put, names_line, own_place, found_name}

@@ -1,17 +1,16 @@
 -- Names that are put behind others, and found again.
-use Rattle.std.proofs.Common.{◌≡◌, ◌≢◌, ℕ, zero, suc, ◌+◌, ◌<◌, ◌≤◌, Bool, true, false, ◌||◌, ◌&&◌, eqb, cond, List, [], ◌∷◌, ◌++◌, length, get_or, Result, Ok, Err, refl, sym, ◌∙◌, ap, subst, append_assoc, append-nil, length-append, ⊎_elim, ◌⊎◌, inl, inr, arith}
-use Rattle.std.specs.Prelude.{IsTrue, ⊤, nat_le, nat_lt}
-use Rattle.std.specs.List.{AllByRecursion, IsDistinct, list_any, list_all, position_or_len}
+use Rattle.std.proofs.Common.{◌≡◌, ℕ, zero, suc, ◌+◌, ◌<◌, ◌≤◌, Bool, true, false, ◌||◌, ◌&&◌, cond, List, [], ◌∷◌, ◌++◌, length, get_or, Ok, Err, refl, sym, ◌∙◌, ap, subst, append_assoc, append-nil, ⊎_elim, arith}
+use Rattle.std.specs.Prelude.{IsTrue, nat_le}
+use Rattle.std.specs.List.{AllByRecursion, IsDistinct, list_any, position_or_len}
 use Rattle.std.specs.Str.{bytes_eq}
 use Rattle.std.specs.Cmp.Lexicographic.{nat_list_eq_equiv}
-use Rattle.std.proofs.lemmas.Bool.{cases_Bool, and_parts, leb-true, le-leb, lt-leb, ltb-true, lt-ltb, le-ltb, leb-false}
+use Rattle.std.proofs.lemmas.Bool.{cases_Bool, and_parts, leb-true, le-leb}
 use Rattle.std.proofs.lemmas.Slice.Eq.{bytes_eq-Decides}
 use Rattle.std.proofs.lemmas.List.Recursion.{is_position_or_len}
 use Rattle.std.proofs.Math.Numerals.{one-add}
 use Rattle.indexmap.specs.IndexSet.{insert_key}
-use Rattle.cmd_tree.specs.Limits.{is_name, is_tail, is_letter, begins_with_letter}
-use Rattle.trace_laws.specs.Mirror.Reading.{with_names, with_header, symbol_of}
-use Rattle.trace_laws.proofs.Cuts.{IsPiece}
+use Rattle.cmd_tree.specs.Limits.{is_name}
+use Rattle.trace_laws.specs.Mirror.Reading.{with_names}
 
 pub true_false : {P : Type 0} → true ≡ false → P
 true_false e = absurd (cc)

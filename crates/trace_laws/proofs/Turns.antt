@@ -1,9 +1,9 @@
 -- One step of the reader.
-use Rattle.std.proofs.Common.{◌≡◌, ℕ, ◌+◌, List, [], ◌∷◌, ◌++◌, Option, Some, None, Result, Ok, Err, refl, sym, ◌∙◌, ap, subst}
+use Rattle.std.proofs.Common.{◌≡◌, ℕ, ◌+◌, List, [], ◌∷◌, ◌++◌, Option, Some, None, Result, Ok, Err, sym, ◌∙◌, ap}
 use Rattle.std.specs.Option.{IfSome}
 use Rattle.trace_laws.specs.declared.list.TraceRefusal.{TraceRefusal}
 use Rattle.trace_laws.specs.ListText.{line_told}
-use Rattle.trace_laws.specs.Mirror.Reading.{pieces, and_then, with_header, Headed, headed, trace_of, with_traces, Tells}
+use Rattle.trace_laws.specs.Mirror.Reading.{pieces, and_then, with_header, headed, trace_of, with_traces, Tells}
 use Rattle.trace_laws.proofs.Cuts.{cut}
 
 pub headed_step : (line : ℕ) (word : List ℕ) (names : List (List ℕ)) (l rest : List ℕ)

@@ -1,5 +1,5 @@
 -- What an answer of the reader says of the bytes.
-use Rattle.std.proofs.Common.{◌≡◌, ℕ, List, Option, Some, None, Ok, Err, refl, sym, ◌∙◌, ap, subst}
+use Rattle.std.proofs.Common.{◌≡◌, ℕ, List, Option, Some, None, Ok, Err, refl, sym, ◌∙◌, subst}
 use Rattle.std.specs.Option.{IfSome}
 use Rattle.cmd_tree.specs.declared.tree.Dir.{Dir}
 use Rattle.trace_laws.specs.declared.list.TraceRefusal.{TraceRefusal}

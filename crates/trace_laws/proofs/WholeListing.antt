@@ -1,5 +1,5 @@
 -- Bytes are read as the list whose text they are, and else their first faulty line is told.
-use Rattle.std.proofs.Common.{◌≡◌, ◌≢◌, ℕ, zero, suc, ◌+◌, ◌-◌, ◌<◌, ◌≤◌, List, [], ◌∷◌, ◌++◌, length, map, replicate, Result, Ok, Err, refl, sym, ◌∙◌, ap, subst, append_assoc, append-nil, length-append, ⊎_elim, ◌⊎◌, inl, inr, arith}
+use Rattle.std.proofs.Common.{◌≡◌, ℕ, ◌+◌, ◌-◌, ◌<◌, ◌≤◌, List, [], ◌∷◌, ◌++◌, length, map, replicate, Result, Ok, Err, refl, sym, ◌∙◌, ap, subst, append_assoc, append-nil, length-append, ⊎_elim, ◌⊎◌, inl, inr, arith}
 use Rattle.std.specs.Prelude.{codes}
 use Rattle.std.specs.List.{AllByRecursion, IsDistinct, join_with_byte}
 use Rattle.std.specs.Str.{bytes_eq}
@@ -12,7 +12,7 @@ use Rattle.trace_laws.specs.ListText.{line_of, text_of, trace_line, lines_of, Is
 use Rattle.trace_laws.specs.Mirror.Reading.{pieces, and_then, Headed, headed, with_traces, trace_of, Listing, after_outputs, after_inputs, listed, listing, dirs_of}
 use Rattle.trace_laws.proofs.Cuts.{IsPiece, cut, clean_pieces, one_piece, lines_cut, lines_back, lines_rest}
 use Rattle.trace_laws.proofs.Naming.{ok_err, AreNames, distinct_none, distinct_front}
-use Rattle.trace_laws.proofs.Listings.{then_ok, then_err, name_piece, names_pieces, words_line, header_read, read_header, refused_header, AllKnown, AreKnown, names_of, traces_read, read_traces, refused_traces, Header, Finished, Unheaded, Untraced, name_at}
+use Rattle.trace_laws.proofs.Listings.{then_ok, then_err, names_pieces, words_line, header_read, read_header, refused_header, AllKnown, names_of, traces_read, read_traces, refused_traces, Header, Finished, name_at}
 
 all_append : {A : Type 0} (P : A → Type 0) (xs ys : List A) → AllByRecursion P xs → AllByRecursion P ys → AllByRecursion P (xs ++ ys)
 all_append P [] ys h k = k

@@ -1,6 +1,9 @@
 //! Laws of the definitions in `specs/`: each function here does nothing, and its contract is the law.
-ghost use Rattle.std.specs.Prelude.{◌≡◌, ◌⊎◌, ℕ, List};
+ghost use Rattle.std.specs.Prelude.{◌≡◌, ◌⊎◌, ℕ, Bool, List};
+ghost use Rattle.std.specs.List.{Contains};
 ghost use Rattle.cmd_tree.specs.declared.tree.Dir.{Dir};
+ghost use Rattle.process_laws.specs.Insensitive.{Insensitive};
+ghost use Rattle.trace_laws.specs.Breaks.{LeastBroken};
 ghost use Rattle.trace_laws.specs.ListText.{IsListText, IsFaultyLine};
 
 /// Bytes are the text of one list, or they have one first faulty line.
@@ -13,4 +16,12 @@ pub fn list_or_faulty_line()
     ensures one_list { (bytes : List ℕ) (names ns : List (List ℕ)) (dirs ds : List Dir) (traces ts : List (List ℕ)) →
         IsListText bytes names dirs traces → IsListText bytes ns ds ts → (names ≡ ns) × (dirs ≡ ds) × (traces ≡ ts) }
     ensures one_line { (bytes : List ℕ) (m n : ℕ) → IsFaultyLine bytes m → IsFaultyLine bytes n → m ≡ n }
+{}
+
+/// A list breaks one least rule at one least trace, or keeps them all.
+pub fn one_rule_is_told()
+    ensures one { (out : ℕ → Bool) (traces : List (List ℕ)) (j k : ℕ) (t u : List ℕ) →
+        LeastBroken out (Contains traces) j t → LeastBroken out (Contains traces) k u → (j ≡ k) × (t ≡ u) }
+    ensures kept { (out : ℕ → Bool) (traces : List (List ℕ)) (j : ℕ) (t : List ℕ) →
+        LeastBroken out (Contains traces) j t → Insensitive (Contains traces) out → ⊥ }
 {}

@@ -1,4 +1,4 @@
-use Rattle.std.proofs.Common.{◌∙◌, sym}
+use Rattle.std.proofs.Common.{sym}
 use Rattle.trace_laws.proofs.Cuts.{cut_found, cut_none}
 use Rattle.trace_laws.proofs.pieces.first_piece.Goals as goal
 
