@@ -146,8 +146,8 @@ symbol_read line names a d l =
 read_symbol : (line : ℕ) (names : List (List ℕ)) (w : List ℕ) (a : ℕ) → symbol_of line names w ≡ Ok a → (a < length names) × (name_at names a ≡ w)
 read_symbol line names w a e = ⊎_elim
     (λ t. let s : position_or_len (bytes_eq w) names ≡ a = ok_same _ a (sym (ap (λ b. cond b (Ok (position_or_len (bytes_eq w) names)) (Err line)) t) ∙ e) in
-      let l = ltb-true (position_or_len (bytes_eq w) names) (length names) t in
-      (subst (λ k. k < length names) s l, subst (λ k. name_at names k ≡ w) s (found_name w names l)))
+    let l = ltb-true (position_or_len (bytes_eq w) names) (length names) t in
+    (subst (λ k. k < length names) s l, subst (λ k. name_at names k ≡ w) s (found_name w names l)))
     (λ f. ok_err (sym (sym (ap (λ b. cond b (Ok (position_or_len (bytes_eq w) names)) (Err line)) f) ∙ e)))
     (cases_Bool (nat_lt (position_or_len (bytes_eq w) names) (length names)))
 
@@ -294,14 +294,14 @@ refused_traces line names ts l (m ∷ ls) n e = ⊎_elim
       always = inr (subst (λ j. trace_of j names l ≡ Err n) (sym k) f);
     })
     (λ s. let t = read_trace line names l s.0 s.1 in
-      let r = refused_traces (line + 1) names (ts ++ s.0 ∷ []) m ls n s.2 in
-      record {
-        vs = s.0 ∷ r.vs;
-        known = (t.1, r.known);
-        number = r.number ∙ (let z : line + 1 + length r.vs ≡ line + length (s.0 ∷ r.vs) = omega arith in z);
-        last = r.last;
-        left = r.left;
-        is = (λ i. sym t.0 i ∷ r.is i);
-        always = r.always;
-      })
+    let r = refused_traces (line + 1) names (ts ++ s.0 ∷ []) m ls n s.2 in
+    record {
+      vs = s.0 ∷ r.vs;
+      known = (t.1, r.known);
+      number = r.number ∙ (let z : line + 1 + length r.vs ≡ line + length (s.0 ∷ r.vs) = omega arith in z);
+      last = r.last;
+      left = r.left;
+      is = (λ i. sym t.0 i ∷ r.is i);
+      always = r.always;
+    })
     (then_err (trace_of line names l) (λ t. with_traces (line + 1) names (ts ++ t ∷ []) (m ∷ ls)) n e)

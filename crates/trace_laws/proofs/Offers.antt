@@ -37,7 +37,7 @@ by_order Equal q t u e f n m = (bytes_eq-Decides t u).0 (sym (is_eq-slice_cmp t 
 
 pub same_traces : (t u : List ℕ) → (Precedes t u → ⊥) → (Precedes u t → ⊥) → t ≡ u
 same_traces t u n m = elim (cases_order (length t) (length u)) [
-  inl e ↦ by_order (slice_cmp nat_cmp t u) (slice_cmp nat_cmp u t) t u refl (nat_list_cmp_total.antisymm t u) (λ l. n (inr (e, l))) (λ l. m (inr (sym e, l)))
+  | inl e ↦ by_order (slice_cmp nat_cmp t u) (slice_cmp nat_cmp u t) t u refl (nat_list_cmp_total.antisymm t u) (λ l. n (inr (e, l))) (λ l. m (inr (sym e, l)))
   | inr (inl l) ↦ absurd (n (inl l))
   | inr (inr l) ↦ absurd (m (inl l))
 ]

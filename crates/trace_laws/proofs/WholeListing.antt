@@ -68,7 +68,7 @@ module _ (inputs outputs : List (List ℕ)) (formed : AreNames (inputs ++ output
           → and_then (headed 2 (codes "out") inputs (line_of (codes "out" ∷ outputs) ∷ ps)) (after_outputs (length inputs)) ≡ after_outputs (length inputs) (record { names = inputs ++ outputs; lines = ps })
       outputs_read ps (q, qs, e) =
           subst (λ rs. and_then (headed 2 (codes "out") inputs (line_of (codes "out" ∷ outputs) ∷ rs)) (after_outputs (length inputs)) ≡ after_outputs (length inputs) (record { names = inputs ++ outputs; lines = rs })) (sym e)
-            (ap (λ r. and_then r (after_outputs (length inputs))) (header_read 2 (codes "out") inputs outputs q qs (out_piece 32 (omega arith)) (all_back _ inputs outputs formed) distinct))
+          (ap (λ r. and_then r (after_outputs (length inputs))) (header_read 2 (codes "out") inputs outputs q qs (out_piece 32 (omega arith)) (all_back _ inputs outputs formed) distinct))
 
   whole_text : (vs : List (List ℕ)) → AllKnown (inputs ++ outputs) vs → IsListText (text_of (lines_of inputs outputs vs)) (inputs ++ outputs) (replicate (length inputs) Input ++ replicate (length outputs) Output) vs
   whole_text vs k = record { inputs = inputs; outputs = outputs; numbered = refl; directed = refl; formed = formed; distinct = distinct; known = k; text = refl }
@@ -162,7 +162,7 @@ fault bytes n before line left e p number b always = record {
 
     by : (left : List (List ℕ)) → pieces 10 bytes ≡ before ++ line ∷ left → (left ≡ []) ⊎ ((m : List ℕ) (ms : List (List ℕ)) → (k : ℕ) × (listed (before ++ line ∷ m ∷ ms) ≡ Err k))
         → ((rest : List ℕ) × (bytes ≡ text_of (before ++ line ∷ []) ++ rest) × (Begins (text_of (before ++ line ∷ [])) → ⊥))
-          ⊎ ((bytes ≡ text_of before ++ line) × ((names : List (List ℕ)) (dirs : List Dir) (traces : List (List ℕ)) → IsListText bytes names dirs traces → ⊥))
+        ⊎ ((bytes ≡ text_of before ++ line) × ((names : List (List ℕ)) (dirs : List Dir) (traces : List (List ℕ)) → IsListText bytes names dirs traces → ⊥))
     by [] q a = inr (at_end q, no_text)
     by (m ∷ ms) q (inl z) = absurd (cc)
     by (m ∷ ms) q (inr a) = inl (join_with_byte 10 (m ∷ ms), sym (join_with_byte-slice_split 10 bytes) ∙ ap (join_with_byte 10) (q ∙ sym (append_assoc before (line ∷ []) (m ∷ ms))) ∙ lines_rest (before ++ line ∷ []) ms m, no_more a)
@@ -182,7 +182,7 @@ refused_line bytes n e = ⊎_elim first_refused (λ s. ⊎_elim (second_refused 
         let u = refused_header 2 (codes "out") a.names h.next h.more n (ap (headed 2 (codes "out") a.names) (sym h.left) ∙ f) in
         let d : IsDistinct bytes_eq h.own = subst (IsDistinct bytes_eq) h.put.is h.put.distinct in
         fault bytes n (line_of (codes "in" ∷ h.own) ∷ []) h.next h.more e (h.is ∙ ap (λ ls. line_of (codes "in" ∷ h.own) ∷ ls) h.left) u.number (header_begins h.own h.put.formed d)
-          (⊎_elim (λ z. inl z) (λ b. inr (λ m ms. (2, ap (λ r. and_then r after_inputs) (header_read 1 (codes "in") [] h.own h.next (m ∷ ms) (in_piece 32 (omega arith)) h.put.formed d) ∙ ap (λ r. and_then r (after_outputs (length h.own))) (subst (λ ns. headed 2 (codes "out") ns (h.next ∷ m ∷ ms) ≡ Err 2) h.put.is (b m ms))))) u.always)
+        (⊎_elim (λ z. inl z) (λ b. inr (λ m ms. (2, ap (λ r. and_then r after_inputs) (header_read 1 (codes "in") [] h.own h.next (m ∷ ms) (in_piece 32 (omega arith)) h.put.formed d) ∙ ap (λ r. and_then r (after_outputs (length h.own))) (subst (λ ns. headed 2 (codes "out") ns (h.next ∷ m ∷ ms) ≡ Err 2) h.put.is (b m ms))))) u.always)
 
     third_refused : (a : Headed) → headed 1 (codes "in") [] (pieces 10 bytes) ≡ Ok a → (b : Headed) → headed 2 (codes "out") a.names a.lines ≡ Ok b → with_traces 3 b.names [] b.lines ≡ Err n → IsFaultyLine bytes n
     third_refused a o b p f =
@@ -196,10 +196,10 @@ refused_line bytes n e = ⊎_elim first_refused (λ s. ⊎_elim (second_refused 
         let before = lines_of h.own k.own u.vs in
         let dirs : List Dir = replicate (length h.own) Input ++ replicate (length k.own) Output in
         fault bytes n before u.last u.left e
-          (h.is ∙ (λ i. line_of (codes "in" ∷ h.own) ∷ (k.is ∙ (λ j. line_of (codes "out" ∷ k.own) ∷ (k.left ∙ u.is ∙ ap (λ q. map (trace_line q) u.vs ++ u.last ∷ u.left) ns) j)) i))
-          (u.number ∙ counted h.own k.own u.vs b.names)
-          (begins_front before [] (h.own ++ k.own) dirs u.vs (subst (λ ls. IsListText (text_of ls) (h.own ++ k.own) dirs u.vs) (sym (append-nil before)) (whole_text h.own k.own g d u.vs v)))
-          (⊎_elim (λ z. inl z) (λ w. inr (λ m ms. (n, front_read h.own k.own g d u.vs u.last (m ∷ ms) v ∙ ap (λ r. and_then r (listed_as (length h.own) (h.own ++ k.own))) (again h.own k.own b.names u.vs u.last m ms ns u.number w)))) u.always)
+        (h.is ∙ (λ i. line_of (codes "in" ∷ h.own) ∷ (k.is ∙ (λ j. line_of (codes "out" ∷ k.own) ∷ (k.left ∙ u.is ∙ ap (λ q. map (trace_line q) u.vs ++ u.last ∷ u.left) ns) j)) i))
+        (u.number ∙ counted h.own k.own u.vs b.names)
+        (begins_front before [] (h.own ++ k.own) dirs u.vs (subst (λ ls. IsListText (text_of ls) (h.own ++ k.own) dirs u.vs) (sym (append-nil before)) (whole_text h.own k.own g d u.vs v)))
+        (⊎_elim (λ z. inl z) (λ w. inr (λ m ms. (n, front_read h.own k.own g d u.vs u.last (m ∷ ms) v ∙ ap (λ r. and_then r (listed_as (length h.own) (h.own ++ k.own))) (again h.own k.own b.names u.vs u.last m ms ns u.number w)))) u.always)
       where
         counted : (xs ys us names : List (List ℕ)) → 3 + length us ≡ length (lines_of xs ys us) + 1
         counted xs ys us names = omega (arith, length-map us (trace_line (xs ++ ys)))
@@ -212,7 +212,7 @@ pub no_fault : (bytes : List ℕ) (names : List (List ℕ)) (dirs : List Dir) (t
 no_fault bytes names dirs traces n w f = by f.faulty
   where
     by : ((rest : List ℕ) × (bytes ≡ text_of (f.before ++ f.line ∷ []) ++ rest) × (Begins (text_of (f.before ++ f.line ∷ [])) → ⊥))
-          ⊎ ((bytes ≡ text_of f.before ++ f.line) × ((names : List (List ℕ)) (dirs : List Dir) (traces : List (List ℕ)) → IsListText bytes names dirs traces → ⊥)) → ⊥
+        ⊎ ((bytes ≡ text_of f.before ++ f.line) × ((names : List (List ℕ)) (dirs : List Dir) (traces : List (List ℕ)) → IsListText bytes names dirs traces → ⊥)) → ⊥
     by (inl (rest, e, g)) = g (record { more = rest; names = names; dirs = dirs; traces = traces; whole = subst (λ t. IsListText t names dirs traces) e w })
     by (inr (e, g)) = g names dirs traces w
 
@@ -229,7 +229,7 @@ shape : (bytes : List ℕ) (n : ℕ) → IsFaultyLine bytes n → Shape bytes n
 shape bytes n f = by f.faulty
   where
     by : ((rest : List ℕ) × (bytes ≡ text_of (f.before ++ f.line ∷ []) ++ rest) × (Begins (text_of (f.before ++ f.line ∷ [])) → ⊥))
-          ⊎ ((bytes ≡ text_of f.before ++ f.line) × ((names : List (List ℕ)) (dirs : List Dir) (traces : List (List ℕ)) → IsListText bytes names dirs traces → ⊥)) → Shape bytes n
+        ⊎ ((bytes ≡ text_of f.before ++ f.line) × ((names : List (List ℕ)) (dirs : List Dir) (traces : List (List ℕ)) → IsListText bytes names dirs traces → ⊥)) → Shape bytes n
     by (inl (rest, e, g)) = record {
       before = f.before;
       line = f.line;
@@ -271,8 +271,8 @@ one_line bytes m n f g =
     let s = shape bytes m f in
     let t = shape bytes n g in
     ⊎_elim (λ e. s.number ∙ ap (λ k. k + 1) e ∙ sym t.number)
-      (λ o. ⊎_elim (λ l. absurd (not_before bytes m n s t l)) (λ l. absurd (not_before bytes n m t s l)) o)
-      (cases_order (length s.before) (length t.before))
+    (λ o. ⊎_elim (λ l. absurd (not_before bytes m n s t l)) (λ l. absurd (not_before bytes n m t s l)) o)
+    (cases_order (length s.before) (length t.before))
 
 -- ---- one or the other
 pub text_or_line : (bytes : List ℕ) → ((names : List (List ℕ)) × (dirs : List Dir) × (traces : List (List ℕ)) × IsListText bytes names dirs traces) ⊎ ((n : ℕ) × IsFaultyLine bytes n)

@@ -1,4 +1,7 @@
-//! Lists of traces: whether a list keeps the five rules of delay-insensitivity.
+//! Lists of traces: the reader of their text, and whether a list keeps the five rules of delay-insensitivity.
+//!
+//! `list_or_faulty_line` is the law that a text is of one list, or has one first faulty line; `one_rule_is_told` the law
+//! that one rule and one trace are the least.
 #![tactic(auto)]
 
 mod check;

@@ -1,5 +1,5 @@
 //! Reads a list of traces.
-ghost use Rattle.std.specs.Prelude.{◌≡◌, ◌+◌, ◌-◌, ◌≤◌, ◌++◌, ℕ, List, [], ◌∷◌, length, map, replicate, Ok, IfOk, IfErr, IfSome, OnOk, MatchResult};
+ghost use Rattle.std.specs.Prelude.{◌≡◌, ◌+◌, ◌-◌, ◌≤◌, ◌++◌, ℕ, List, [], ◌∷◌, length, replicate, IfOk, IfErr, IfSome, OnOk, MatchResult};
 ghost use Rattle.std.specs.Option.{option_copied};
 ghost use Rattle.cmd_tree.specs.declared.limits.TheConstants.{MAX_FILE_BYTES};
 ghost use Rattle.cmd_tree.specs.declared.tree.Dir.{Dir};
@@ -7,7 +7,7 @@ ghost use Rattle.cmd_tree.specs.declared.tree.Dir.TheVariants.{Input, Output};
 ghost use Rattle.trace_laws.specs.declared.list.TraceRefusal.TheVariants as told;
 ghost use Rattle.trace_laws.specs.Listed.{numbers, rows};
 ghost use Rattle.trace_laws.specs.ListText.{IsListText, IsFaultyLine, line_told};
-ghost use Rattle.trace_laws.specs.Mirror.Reading.{pieces, pieces_left, left_size, with_names, with_header, headed, symbol_of, trace_of, with_symbols, with_traces, Listing, listing, dirs_of, Tells};
+ghost use Rattle.trace_laws.specs.Mirror.Reading.{pieces, pieces_left, left_size, with_names, with_header, headed, symbol_of, trace_of, with_traces, Listing, listing, dirs_of, Tells};
 
 use crate::list::{TraceList, TraceRefusal};
 use crate::name::is_name;
@@ -99,12 +99,7 @@ fn read_header<'a>(
 }
 
 // A word that is no name is put behind the names, and then the list is refused.
-fn symbol(
-    alloc: Global,
-    line: u32,
-    word: &[u8],
-    names: &mut NameTable,
-) -> Result<Sym, TraceRefusal>
+fn symbol(alloc: Global, line: u32, word: &[u8], names: &mut NameTable) -> Result<Sym, TraceRefusal>
     requires { length names.old ≤ MAX_FILE_BYTES }
     ensures ok { IfOk result (λ sym. symbol_of line names.old word.now ≡ Ok sym.0) }
     ensures err { IfErr result (Tells (symbol_of line names.old word.now)) }

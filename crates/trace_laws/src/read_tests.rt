@@ -74,7 +74,12 @@ fn tells_rules(rt: HostRuntime) -> Result<(), Fail> {
         (b"in a\nout b\n", 0, &[]),
     ];
     for (bytes, rule, symbols) in rows {
-        assert_eq!(rt; broken_rule(rt.alloc(), bytes, symbols), Some(rule), "at {}", bytes.len());
+        assert_eq!(rt;
+            broken_rule(rt.alloc(), bytes, symbols),
+            Some(rule),
+            "at {}",
+            bytes.len()
+        );
     }
     Ok(())
 }

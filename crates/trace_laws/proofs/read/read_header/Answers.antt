@@ -19,4 +19,4 @@ returns-in_err-read_words-in_default-Some-clause-err c =
     let step = headed_step c.args.line c.args.word.now c.args.names.now c.first_piece.result.0.now c.in_default-Some.rest.now in
     let cut : pieces 10 c.args.text.now ≡ c.first_piece.result.0.now ∷ pieces 10 c.in_default-Some.rest.now = c.first_piece.ensures.cut ∙ ap (λ r. c.first_piece.result.0.now ∷ pieces_left 10 (option_copied r)) c.in_default-Some.is-1 in
     rw (p.1, p.2) (subst (λ r. Tells r c.in_err-read_words-in_default-Some.field-0.0) (sym step ∙ sym (ap (headed c.args.line c.args.word.now c.args.names.now) cut))
-      (tells_then (with_header c.args.line c.args.word.now c.args.names.now (pieces 32 c.first_piece.result.0.now)) _ c.in_err-read_words-in_default-Some.field-0.0 c.in_err-read_words-in_default-Some.ensures.err))
+    (tells_then (with_header c.args.line c.args.word.now c.args.names.now (pieces 32 c.first_piece.result.0.now)) _ c.in_err-read_words-in_default-Some.field-0.0 c.in_err-read_words-in_default-Some.ensures.err))

@@ -7,7 +7,7 @@ abbrev pub invariant-loop-more : goal.invariant-loop-more
 invariant-loop-more l = record {
   same : with_traces l.line l.names (rows l.traces.items) (pieces 10 l.rest) ≡ with_traces 3 l.initial.names [] (pieces 10 l.text);
   kept : l.names ≡ l.initial.names;
-  few : l.line + length l.rest ≤ 3 + length l.text
+  few : l.line + length l.rest ≤ 3 + length l.text;
 }
 
 abbrev pub decreases-loop-more : goal.decreases-loop-more
