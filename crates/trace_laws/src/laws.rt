@@ -1,6 +1,6 @@
 //! Laws of the definitions in `specs/`: each function here does nothing, and its contract is the law.
-ghost use Rattle.std.specs.Prelude.{◌≡◌, ◌⊎◌, ℕ, Bool, List};
-ghost use Rattle.std.specs.List.{Contains};
+ghost use Rattle.std.specs.Prelude.{◌≡◌, ◌⊎◌, ℕ, ◌<◌, Bool, List};
+ghost use Rattle.std.specs.List.{Contains, AllByRecursion};
 ghost use Rattle.cmd_tree.specs.declared.tree.Dir.{Dir};
 ghost use Rattle.process_laws.specs.Insensitive.{Insensitive};
 ghost use Rattle.trace_laws.specs.Breaks.{LeastBroken};
@@ -24,4 +24,10 @@ pub fn one_rule_is_told()
         LeastBroken out (Contains traces) j t → LeastBroken out (Contains traces) k u → (j ≡ k) × (t ≡ u) }
     ensures kept { (out : ℕ → Bool) (traces : List (List ℕ)) (j : ℕ) (t : List ℕ) →
         LeastBroken out (Contains traces) j t → Insensitive (Contains traces) out → ⊥ }
+{}
+
+/// The trace at which a list breaks a rule has no other symbols than the traces of the list.
+pub fn told_traces_have_listed_symbols()
+    ensures { (out : ℕ → Bool) (traces : List (List ℕ)) (n : ℕ) (j : ℕ) (t : List ℕ) →
+        AllByRecursion (AllByRecursion (λ a. a < n)) traces → LeastBroken out (Contains traces) j t → AllByRecursion (λ a. a < n) t }
 {}

@@ -22,7 +22,7 @@ mod tests;
 mod words;
 
 pub use check::{BrokenRule, check_rules};
-pub use laws::{list_or_faulty_line, one_rule_is_told};
+pub use laws::{list_or_faulty_line, one_rule_is_told, told_traces_have_listed_symbols};
 pub use list::{TraceList, TraceRefusal};
 pub use projection::{in_projection, project};
 pub use read::read_traces;
