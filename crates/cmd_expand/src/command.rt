@@ -1,0 +1,82 @@
+//! From a command file that was read to the command of `main`.
+ghost use Rattle.std.specs.Prelude.{◌≡◌, Ok, Err, IfOk, IfErr};
+ghost use Rattle.std.specs.Option.{IfSome};
+ghost use Rattle.cmd_expand.specs.Files.{IsFile};
+ghost use Rattle.cmd_expand.specs.Expansion.{Meant, expansion, refused_of};
+
+use crate::names::list_names;
+use crate::plan::{Line, Plan, Tables, define, resolve};
+use crate::refusal::ExpandRefusal;
+use crate::unfolding::unfold;
+use cmd_text::{File, NameTable};
+use cmd_tree::{Command, NameSet};
+use sqlite_items::Items;
+use std::alloc::{AllocError, Global};
+
+/// The command of `main`, in which each use of a definition is replaced by its processes with their symbols renamed.
+/// The file must be one that was read. The first sentence with something wrong decides; in a sentence the least place
+/// comes first, and behind all places the numbers of symbols, of processes and of symbol places, which are exact.
+pub fn expand(alloc: Global, file: &File) -> Result<Command, ExpandRefusal>
+    requires read { IsFile file.now.names file.now.sentences }
+    ensures ok { IfOk result (λ command. expansion file.now.names file.now.sentences
+        ≡ Ok (record { names = command.names; procs = command.procs })) }
+    ensures refused { IfErr result (λ e. IfSome (refused_of e) (λ r. expansion file.now.names file.now.sentences ≡ Err r)) }
+{
+    let sentences = file.sentences.as_slice();
+    let Some((main, definitions)) = sentences.split_last() else {
+        unreachable!();
+    };
+    let mut plan = Plan {
+        sentences,
+        names: list_names(alloc, file)?,
+        defined: NameTable::new(alloc),
+        lines: Vec::new(alloc),
+        tables: Tables::new(alloc),
+    };
+    for sentence in definitions {
+        define(alloc, &mut plan, sentence)?;
+    }
+    let line = resolve(alloc, &mut plan, main.factors.as_slice())?;
+    let command = command_of(alloc, plan, &line)?;
+    Ok(command)
+}
+
+/// The command of a line.
+fn command_of(alloc: Global, plan: Plan, line: &Line) -> Result<Command, AllocError> {
+    let Plan {
+        sentences: _,
+        names,
+        defined: _,
+        lines,
+        mut tables,
+    } = plan;
+    let mut procs = Items::new(alloc);
+    let numbers = first_numbers(alloc, line.symbols.len())?;
+    unfold(alloc, lines.as_slice(), line, numbers.as_slice(), &mut tables, &mut procs)?;
+    let names = symbol_names(alloc, &names, line.symbols.as_slice())?;
+    Ok(Command { names, procs })
+}
+
+/// The first numbers, as many as are asked for.
+fn first_numbers(alloc: Global, count: usize) -> Result<Vec<u32>, AllocError> {
+    let mut numbers = Vec::new(alloc);
+    for index in 0..count {
+        numbers.push(index as u32)?;
+    }
+    Ok(numbers)
+}
+
+fn symbol_names(
+    alloc: Global,
+    names: &NameTable,
+    symbols: &[u32],
+) -> Result<NameSet, AllocError> {
+    let mut set = NameSet::new(alloc);
+    for symbol in symbols {
+        if let Some(name) = names.as_slice().get(*symbol as usize) {
+            let copy = name.clone()?;
+            set.insert(copy)?;
+        }
+    }
+    Ok(set)
+}

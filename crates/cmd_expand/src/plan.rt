@@ -1,0 +1,244 @@
+//! The sentences of a file, each resolved when those before it are.
+ghost use Rattle.std.specs.Prelude.{◌≡◌, OnOk};
+ghost use Rattle.cmd_rename.specs.Symbols.{put_each};
+ghost use Rattle.cmd_rename.specs.Table.{IsListed};
+
+use crate::faults::{check_pairs, list_all, tally};
+use crate::pairs::{Pair, number_pairs, rename_symbols, set_pairs};
+use crate::refusal::ExpandRefusal;
+use cmd_rename::{Table, list_symbol, proc_symbols};
+use cmd_text::{Factor, NameTable, Named, Sentence};
+use cmd_tree::{MAX_PLACES, MAX_PROCESSES, MAX_SYMBOLS, Proc};
+use std::alloc::{AllocError, Global};
+
+/// A process that is written out, or the use of the definition of this number with its symbols renamed.
+#[derive(Drop)]
+pub enum Part<'a> {
+    Own(&'a Proc),
+    Use { of: usize, pairs: Vec<Pair> },
+}
+
+/// A sentence: its parts, the symbols of its processes in order of first occurrence, and how many processes and
+/// symbol places they have. `shape` is the number of a line with the same processes under other symbols, which is
+/// no single use; it is the line's own number, if the line is none.
+#[derive(Drop)]
+pub struct Line<'a> {
+    pub parts: Vec<Part<'a>>,
+    pub symbols: Vec<u32>,
+    pub procs: u64,
+    pub places: u64,
+    pub shape: usize,
+}
+
+/// The tables with which renamings are checked.
+#[derive(Drop)]
+pub struct Tables {
+    pub fresh: Table,
+    pub owners: Table,
+    pub symbols: Table,
+    pub earlier: Table,
+    pub listed: Table,
+}
+
+/// What is resolved so far: a line for each definition, whose names are `defined`.
+#[derive(Drop)]
+pub struct Plan<'a> {
+    pub sentences: &'a [Sentence],
+    pub names: NameTable,
+    pub defined: NameTable,
+    pub lines: Vec<Line<'a>>,
+    pub tables: Tables,
+}
+
+/// What is gathered of a sentence.
+#[derive(Drop)]
+struct Draft<'a> {
+    parts: Vec<Part<'a>>,
+    symbols: Vec<u32>,
+    procs: u64,
+    places: u64,
+}
+
+impl Tables {
+    pub fn new(alloc: Global) -> Tables {
+        Tables {
+            fresh: Table::new(alloc),
+            owners: Table::new(alloc),
+            symbols: Table::new(alloc),
+            earlier: Table::new(alloc),
+            listed: Table::new(alloc),
+        }
+    }
+}
+
+/// The sum. No memory holds as many as would not fit.
+fn total(a: u64, b: u64) -> Result<u64, AllocError> {
+    match a.checked_add(b) {
+        Some(sum) => Ok(sum),
+        None => Err(AllocError),
+    }
+}
+
+/// Why no definition of the name is there.
+fn missing(sentences: &[Sentence], named: &Named) -> ExpandRefusal {
+    for sentence in sentences {
+        if let Some(name) = &sentence.name {
+            if name == &named.name {
+                return ExpandRefusal::UsedBeforeDefined { at: named.at };
+            }
+        }
+    }
+    ExpandRefusal::UnknownName { at: named.at }
+}
+
+/// Puts these symbols, one after the other, behind those that are listed.
+fn add_symbols(
+    symbols: &mut Vec<u32>,
+    listed: &mut Table,
+    more: &[u32],
+) -> Result<(), AllocError>
+    requires { IsListed listed.old symbols.old.items }
+    ensures symbols { OnOk result (symbols.new.items ≡ put_each symbols.old.items more.now) }
+    ensures listed { OnOk result (IsListed listed.new symbols.new.items) }
+{
+    for symbol in more {
+        list_symbol(symbols, listed, *symbol)?;
+    }
+    Ok(())
+}
+
+fn add_own<'a>(
+    alloc: Global,
+    draft: &mut Draft<'a>,
+    listed: &mut Table,
+    process: &'a Proc,
+) -> Result<(), AllocError> {
+    let symbols = proc_symbols(alloc, process)?;
+    draft.procs = total(draft.procs, 1)?;
+    draft.places = total(draft.places, symbols.len() as u64)?;
+    add_symbols(&mut draft.symbols, listed, symbols.as_slice())?;
+    draft.parts.push(Part::Own(process))?;
+    Ok(())
+}
+
+/// The names that the symbols of a definition have after a renaming.
+fn use_symbols(
+    alloc: Global,
+    tables: &mut Tables,
+    symbols: &[u32],
+    pairs: &[Pair],
+) -> Result<Vec<u32>, ExpandRefusal> {
+    set_pairs(&mut tables.fresh, pairs)?;
+    let fresh = rename_symbols(alloc, &tables.fresh, symbols)?;
+    if pairs.is_empty() {
+        return Ok(fresh);
+    }
+    tally(&mut tables.owners, fresh.as_slice())?;
+    list_all(&mut tables.symbols, symbols)?;
+    check_pairs(pairs, &tables.symbols, &tables.owners, &mut tables.earlier)?;
+    Ok(fresh)
+}
+
+fn add_use<'a>(
+    alloc: Global,
+    plan: &mut Plan<'a>,
+    draft: &mut Draft<'a>,
+    named: &Named,
+) -> Result<(), ExpandRefusal> {
+    let of = plan.defined.insert(alloc, named.name.bytes())?;
+    let Some(line) = plan.lines.get(of) else {
+        return Err(missing(plan.sentences, named));
+    };
+    let pairs = number_pairs(alloc, &mut plan.names, named.renames.as_slice())?;
+    let fresh = use_symbols(alloc, &mut plan.tables, line.symbols.as_slice(), pairs.as_slice())?;
+    draft.procs = total(draft.procs, line.procs)?;
+    draft.places = total(draft.places, line.places)?;
+    add_symbols(&mut draft.symbols, &mut plan.tables.listed, fresh.as_slice())?;
+    draft.parts.push(Part::Use { of, pairs })?;
+    Ok(())
+}
+
+fn check_limits(draft: &Draft) -> Result<(), ExpandRefusal> {
+    let symbols = draft.symbols.len();
+    if symbols > MAX_SYMBOLS {
+        return Err(ExpandRefusal::TooManySymbols {
+            count: symbols as u64,
+        });
+    }
+    if draft.procs > MAX_PROCESSES as u64 {
+        return Err(ExpandRefusal::TooManyProcs { count: draft.procs });
+    }
+    if draft.places > MAX_PLACES as u64 {
+        return Err(ExpandRefusal::TooManyPlaces {
+            count: draft.places,
+        });
+    }
+    Ok(())
+}
+
+/// The number of a line with the same processes under other symbols: that of the line itself, if it is no single use.
+fn shape_of(lines: &[Line], draft: &Draft) -> usize {
+    match draft.parts.as_slice() {
+        [part] => shape_of_part(lines, part, draft.symbols.len()),
+        _ => lines.len(),
+    }
+}
+
+/// The same for a line with this part alone and as many symbols.
+fn shape_of_part(lines: &[Line], part: &Part, symbols: usize) -> usize {
+    match part {
+        Part::Own(_) => lines.len(),
+        Part::Use { of, pairs: _ } => match lines.get(*of) {
+            Some(line) if line.symbols.len() == symbols => line.shape,
+            _ => lines.len(),
+        },
+    }
+}
+
+/// The line of a sentence with these factors.
+pub fn resolve<'a>(
+    alloc: Global,
+    plan: &mut Plan<'a>,
+    factors: &'a [Factor],
+) -> Result<Line<'a>, ExpandRefusal> {
+    let mut draft = Draft {
+        parts: Vec::new(alloc),
+        symbols: Vec::new(alloc),
+        procs: 0,
+        places: 0,
+    };
+    plan.tables.listed.clear();
+    for factor in factors {
+        match factor {
+            Factor::Own(process) => add_own(alloc, &mut draft, &mut plan.tables.listed, process)?,
+            Factor::Named(named) => add_use(alloc, plan, &mut draft, named)?,
+        }
+    }
+    check_limits(&draft)?;
+    let shape = shape_of(plan.lines.as_slice(), &draft);
+    Ok(Line {
+        parts: draft.parts,
+        symbols: draft.symbols,
+        procs: draft.procs,
+        places: draft.places,
+        shape,
+    })
+}
+
+/// Puts the line of a definition behind the others.
+pub fn define<'a>(
+    alloc: Global,
+    plan: &mut Plan<'a>,
+    sentence: &'a Sentence,
+) -> Result<(), ExpandRefusal> {
+    let place = match &sentence.name {
+        Some(name) => plan.defined.insert(alloc, name.bytes())?,
+        None => plan.defined.insert(alloc, &[])?,
+    };
+    if place < plan.lines.len() {
+        return Err(ExpandRefusal::DefinedTwice { at: sentence.at });
+    }
+    let line = resolve(alloc, plan, sentence.factors.as_slice())?;
+    plan.lines.push(line)?;
+    Ok(())
+}
