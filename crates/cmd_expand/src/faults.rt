@@ -1,10 +1,10 @@
 //! What is wrong with a renaming.
-ghost use Rattle.std.specs.Prelude.{◌≡◌, ℕ, List, map, Some, None, OnOk, IfErr};
+ghost use Rattle.std.specs.Prelude.{◌≡◌, ℕ, suc, List, map, Some, None, OnOk, IfErr};
 ghost use Rattle.std.specs.Option.{IfSome};
 ghost use Rattle.cmd_rename.specs.Table.{IsListed};
 ghost use Rattle.cmd_expand.specs.Pairs.{renamed, fault_of_pair, first_fault, first_fault_from};
 ghost use Rattle.cmd_expand.specs.Expansion.{refused_of};
-ghost use Rattle.cmd_expand.specs.Mirror.Tables.{Tallies};
+ghost use Rattle.cmd_expand.specs.Mirror.Tables.{tally, Tallies};
 ghost use Rattle.cmd_expand.specs.declared.pairs.Pair.{Pair};
 
 use crate::pairs::Pair;
@@ -13,18 +13,25 @@ use cmd_rename::Table;
 use std::alloc::AllocError;
 
 /// The table tells of each number whether it stands in the list once or more often.
-pub fn tally(table: &mut Table, numbers: &[u32]) -> Result<(), AllocError>
+pub fn tally_all(table: &mut Table, numbers: &[u32]) -> Result<(), AllocError>
     ensures { OnOk result (Tallies table.new numbers.now) }
 {
     table.clear();
     for number in numbers {
-        let found = match table.get(*number) {
-            None => 1,
-            Some(_) => 2,
-        };
+        let found = one_more(table.get(*number));
         table.put(*number, found)?;
     }
     Ok(())
+}
+
+/// What a table tells of a number after one more place of it.
+fn one_more(told: Option<u32>) -> u32
+    ensures { (n : ℕ) → told ≡ tally n → tally (suc n) ≡ Some result }
+{
+    match told {
+        None => 1,
+        Some(_) => 2,
+    }
 }
 
 /// The table has a number for each of these symbols, and for no other.

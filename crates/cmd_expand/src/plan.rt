@@ -3,7 +3,7 @@ ghost use Rattle.std.specs.Prelude.{◌≡◌, OnOk};
 ghost use Rattle.cmd_rename.specs.Symbols.{put_each};
 ghost use Rattle.cmd_rename.specs.Table.{IsListed};
 
-use crate::faults::{check_pairs, list_all, tally};
+use crate::faults::{check_pairs, list_all, tally_all};
 use crate::pairs::{Pair, number_pairs, rename_symbols, set_pairs};
 use crate::refusal::ExpandRefusal;
 use cmd_rename::{Table, list_symbol, proc_symbols};
@@ -133,7 +133,7 @@ fn use_symbols(
     if pairs.is_empty() {
         return Ok(fresh);
     }
-    tally(&mut tables.owners, fresh.as_slice())?;
+    tally_all(&mut tables.owners, fresh.as_slice())?;
     list_all(&mut tables.symbols, symbols)?;
     check_pairs(pairs, &tables.symbols, &tables.owners, &mut tables.earlier)?;
     Ok(fresh)
