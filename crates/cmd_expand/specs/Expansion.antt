@@ -50,11 +50,34 @@ abbrev pub renamed_by : List Pair → List Proc → Option Refused → Result (L
 renamed_by pairs ps None = Ok (ren_all (renamed pairs) ps)
 renamed_by pairs ps (Some r) = Err r
 
+-- the processes, where there are few enough symbols, processes and symbol places
+abbrev pub limited : List Proc → Result (List Proc) Refused
+limited ps =
+    if nat_lt MAX_SYMBOLS (length (symbols_of ps)) then Err (TooManySymbols (length (symbols_of ps)))
+    else if nat_lt MAX_PROCESSES (length ps) then Err (TooManyProcs (length ps))
+    else if nat_lt MAX_PLACES (places_of_all ps) then Err (TooManyPlaces (places_of_all ps))
+    else Ok ps
+
+abbrev pub within : Result (List Proc) Refused → Result (List Proc) Refused
+within (Ok ps) = limited ps
+within (Err r) = Err r
+
+abbrev pub and_then : Result (List Proc) Refused → (List Proc → Result (List Proc) Refused) → Result (List Proc) Refused
+and_then (Ok ps) next = next ps
+and_then (Err r) next = Err r
+
+abbrev pub defined_by : List ℕ → List Proc → Known
+defined_by n ps = record { name = n; procs = ps }
+
 -- names: of all symbols; file: all sentences
 module _ (names : List (List ℕ)) (file : List Sentence) where
+  -- no earlier sentence defines what is used
+  abbrev pub missing : Use → Refused
+  missing u = if list_any (λ s. is_named u.name s.name) file then UsedBeforeDefined u.at else UnknownName u.at
+
   -- a definition that is used: these are its processes, where an earlier sentence defines it
   abbrev pub use_of : Use → Option (List Proc) → Result (List Proc) Refused
-  use_of u None = Err (if list_any (λ s. is_named u.name s.name) file then UsedBeforeDefined u.at else UnknownName u.at)
+  use_of u None = Err (missing u)
   use_of u (Some ps) = renamed_by (map (pair_of names) u.renames) ps (first_fault (symbols_of ps) (map (pair_of names) u.renames))
 
   -- a process, or the processes of the definition that is used
@@ -67,36 +90,17 @@ module _ (names : List (List ℕ)) (file : List Sentence) where
   weave known [] = Ok []
   weave known (f ∷ fs) = followed (factor known f) (weave known fs)
 
-  -- the processes, where there are few enough symbols, processes and symbol places
-  abbrev pub limited : List Proc → Result (List Proc) Refused
-  limited ps =
-      if nat_lt MAX_SYMBOLS (length (symbols_of ps)) then Err (TooManySymbols (length (symbols_of ps)))
-      else if nat_lt MAX_PROCESSES (length ps) then Err (TooManyProcs (length ps))
-      else if nat_lt MAX_PLACES (places_of_all ps) then Err (TooManyPlaces (places_of_all ps))
-      else Ok ps
-
-  abbrev pub within : Result (List Proc) Refused → Result (List Proc) Refused
-  within (Ok ps) = limited ps
-  within (Err r) = Err r
-
-  -- what a sentence means, behind these definitions
-  abbrev pub body : List Known → Sentence → Result (List Proc) Refused
-  body known s = within (weave known s.factors)
+  -- what a sentence of these factors means, behind these definitions
+  abbrev pub body : List Known → List Factor → Result (List Proc) Refused
+  body known fs = within (weave known fs)
 
   abbrev pub definition : List Known → Sentence → Result (List Proc) Refused
-  definition known s = if list_any (λ k. bytes_eq (name_of s.name) k.name) known then Err (DefinedTwice s.at) else body known s
-
-  abbrev pub and_then : Result (List Proc) Refused → (List Proc → Result (List Proc) Refused) → Result (List Proc) Refused
-  and_then (Ok ps) next = next ps
-  and_then (Err r) next = Err r
-
-  abbrev pub defined_by : List ℕ → List Proc → Known
-  defined_by n ps = record { name = n; procs = ps }
+  definition known s = if list_any (λ k. bytes_eq (name_of s.name) k.name) known then Err (DefinedTwice s.at) else body known s.factors
 
   -- what the last sentence means, where each is defined for those behind it; the first sentence that is wrong decides
   abbrev pub last_of : List Known → List Sentence → Result (List Proc) Refused
   last_of known [] = Ok []
-  last_of known (s ∷ []) = body known s
+  last_of known (s ∷ []) = body known s.factors
   last_of known (s ∷ t ∷ ss) = and_then (definition known s) (λ ps. last_of (known ++ defined_by (name_of s.name) ps ∷ []) (t ∷ ss))
 
 -- a command: the names of its symbols, and its processes

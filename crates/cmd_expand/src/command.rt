@@ -1,15 +1,19 @@
 //! From a command file that was read to the command of `main`.
-ghost use Rattle.std.specs.Prelude.{◌≡◌, Ok, Err, IfOk, IfErr};
+ghost use Rattle.std.specs.Prelude.{◌≡◌, ◌<◌, ◌^◌, List, [], map, get_or, Ok, Err, IfOk, IfErr};
+ghost use Rattle.std.specs.List.{IsDistinct, range_with_len};
+ghost use Rattle.std.specs.Str.{bytes_eq};
 ghost use Rattle.std.specs.Option.{IfSome};
 ghost use Rattle.cmd_expand.specs.Files.{IsFile};
-ghost use Rattle.cmd_expand.specs.Expansion.{Meant, expansion, refused_of};
+ghost use Rattle.cmd_expand.specs.Expansion.{Known, expansion, refused_of};
+ghost use Rattle.cmd_expand.specs.Mirror.Plan.{procs_of_parts, procs_known, IsPlan};
+ghost use Rattle.cmd_expand.specs.Mirror.Main.{IsMain, IsMeant};
 
 use crate::names::list_names;
 use crate::plan::{Line, Plan, Tables, define, resolve};
 use crate::refusal::ExpandRefusal;
 use crate::unfolding::unfold;
 use cmd_text::{File, NameTable};
-use cmd_tree::{Command, NameSet};
+use cmd_tree::{Command, Name, NameSet};
 use sqlite_items::Items;
 use std::alloc::{AllocError, Global};
 
@@ -34,31 +38,45 @@ pub fn expand(alloc: Global, file: &File) -> Result<Command, ExpandRefusal>
         tables: Tables::new(alloc),
     };
     for sentence in definitions {
-        define(alloc, &mut plan, sentence)?;
+        if let Err(refusal) = define(alloc, &mut plan, sentence) {
+            return Err(refusal);
+        }
     }
-    let line = resolve(alloc, &mut plan, main.factors.as_slice())?;
-    let command = command_of(alloc, plan, &line)?;
+    let line = match resolve(alloc, &mut plan, main.factors.as_slice()) {
+        Ok(line) => line,
+        Err(refusal) => return Err(refusal),
+    };
+    let command = command_of(alloc, plan, line)?;
     Ok(command)
 }
 
-/// The command of a line.
-fn command_of(alloc: Global, plan: Plan, line: &Line) -> Result<Command, AllocError> {
+/// The command of the last line of a plan.
+fn command_of(alloc: Global, plan: Plan, line: Line) -> Result<Command, AllocError>
+    requires { IsMain plan line }
+    ensures { IfOk result (λ command. (known : List Known) → IsPlan known plan → IsMeant plan.names (procs_of_parts (procs_known known) line.parts.items) command) }
+{
     let Plan {
         sentences: _,
         names,
         defined: _,
-        lines,
+        mut lines,
         mut tables,
     } = plan;
+    let symbols = line.symbols.clone()?;
+    let of = line.shape;
+    lines.push(line)?;
     let mut procs = Items::new(alloc);
-    let numbers = first_numbers(alloc, line.symbols.len())?;
-    unfold(alloc, lines.as_slice(), line, numbers.as_slice(), &mut tables, &mut procs)?;
-    let names = symbol_names(alloc, &names, line.symbols.as_slice())?;
+    let numbers = first_numbers(alloc, symbols.len())?;
+    unfold(alloc, lines.as_slice(), of, numbers.as_slice(), &mut tables, &mut procs)?;
+    let names = symbol_names(alloc, &names, symbols.as_slice())?;
     Ok(Command { names, procs })
 }
 
 /// The first numbers, as many as are asked for.
-fn first_numbers(alloc: Global, count: usize) -> Result<Vec<u32>, AllocError> {
+fn first_numbers(alloc: Global, count: usize) -> Result<Vec<u32>, AllocError>
+    requires { count < 2 ^ 32 }
+    ensures { IfOk result (λ numbers. numbers.items ≡ range_with_len 0 count) }
+{
     let mut numbers = Vec::new(alloc);
     for index in 0..count {
         numbers.push(index as u32)?;
@@ -66,17 +84,22 @@ fn first_numbers(alloc: Global, count: usize) -> Result<Vec<u32>, AllocError> {
     Ok(numbers)
 }
 
+/// The names of these symbols, which are different.
 fn symbol_names(
     alloc: Global,
     names: &NameTable,
     symbols: &[u32],
-) -> Result<NameSet, AllocError> {
+) -> Result<NameSet, AllocError>
+    requires { IsDistinct bytes_eq (map (λ a. get_or names.now a []) symbols.now) }
+    ensures { IfOk result (λ set. set ≡ map (λ a. get_or names.now a []) symbols.now) }
+{
     let mut set = NameSet::new(alloc);
     for symbol in symbols {
-        if let Some(name) = names.as_slice().get(*symbol as usize) {
-            let copy = name.clone()?;
-            set.insert(copy)?;
-        }
+        let copy = match names.as_slice().get(*symbol as usize) {
+            Some(name) => name.clone()?,
+            None => Name::new(alloc, &[])?,
+        };
+        set.insert(copy)?;
     }
     Ok(set)
 }

@@ -84,7 +84,10 @@ pub fn check_pairs(
 {
     earlier.clear();
     for pair in pairs {
-        check_pair(*pair, symbols, owners, earlier)?;
+        match check_pair(*pair, symbols, owners, earlier) {
+            Ok(()) => {}
+            Err(refusal) => return Err(refusal),
+        }
         earlier.put(pair.was, 0)?;
     }
     Ok(())

@@ -1,14 +1,23 @@
 //! The sentences of a file, each resolved when those before it are.
-ghost use Rattle.std.specs.Prelude.{◌≡◌, OnOk};
-ghost use Rattle.cmd_rename.specs.Symbols.{put_each};
+ghost use Rattle.std.specs.Prelude.{◌≡◌, ℕ, ◌+◌, List, map, length, [], ◌∷◌, ◌++◌, Some, None, Ok, Err, IfOk, IfErr, OnOk};
+ghost use Rattle.std.specs.List.{AllByRecursion};
+ghost use Rattle.std.specs.Option.{IfSome};
+ghost use Rattle.cmd_tree.specs.declared.tree.Proc.{Proc};
+ghost use Rattle.cmd_text.specs.declared.file.Factor.TheVariants as factors;
+ghost use Rattle.cmd_rename.specs.Symbols.{put_each, symbols_of};
 ghost use Rattle.cmd_rename.specs.Table.{IsListed};
+ghost use Rattle.cmd_expand.specs.Names.{AreIn, IsFactorIn};
+ghost use Rattle.cmd_expand.specs.Pairs.{renamed, first_fault};
+ghost use Rattle.cmd_expand.specs.Expansion.{Known, factor, body, definition, limited, defined_by, name_of, is_named, refused_of};
+ghost use Rattle.cmd_expand.specs.Expansion as spec;
+ghost use Rattle.cmd_expand.specs.Mirror.Plan.{procs_of_parts, procs_known, IsBelow, IsLine, IsShape, IsDraft, Added, AddedFactor, IsPlan, IsPlanOf, Defined, AreLines};
 
 use crate::faults::{check_pairs, list_all, tally_all};
 use crate::pairs::{Pair, number_pairs, rename_symbols, set_pairs};
 use crate::refusal::ExpandRefusal;
 use cmd_rename::{Table, list_symbol, proc_symbols};
 use cmd_text::{Factor, NameTable, Named, Sentence};
-use cmd_tree::{MAX_PLACES, MAX_PROCESSES, MAX_SYMBOLS, Proc};
+use cmd_tree::{MAX_PLACES, MAX_PROCESSES, MAX_SYMBOLS, Name, Proc};
 use std::alloc::{AllocError, Global};
 
 /// A process that is written out, or the use of the definition of this number with its symbols renamed.
@@ -72,7 +81,9 @@ impl Tables {
 }
 
 /// The sum. No memory holds as many as would not fit.
-fn total(a: u64, b: u64) -> Result<u64, AllocError> {
+fn total(a: u64, b: u64) -> Result<u64, AllocError>
+    ensures { IfOk result (λ sum. sum ≡ a + b) }
+{
     match a.checked_add(b) {
         Some(sum) => Ok(sum),
         None => Err(AllocError),
@@ -80,15 +91,24 @@ fn total(a: u64, b: u64) -> Result<u64, AllocError> {
 }
 
 /// Why no definition of the name is there.
-fn missing(sentences: &[Sentence], named: &Named) -> ExpandRefusal {
+fn missing(sentences: &[Sentence], named: &Named) -> ExpandRefusal
+    ensures { (names : List (List ℕ)) → refused_of result ≡ Some (spec.missing names sentences.now named.now) }
+{
     for sentence in sentences {
-        if let Some(name) = &sentence.name {
-            if name == &named.name {
-                return ExpandRefusal::UsedBeforeDefined { at: named.at };
-            }
+        if defines(sentence, &named.name) {
+            return ExpandRefusal::UsedBeforeDefined { at: named.at };
         }
     }
     ExpandRefusal::UnknownName { at: named.at }
+}
+
+fn defines(sentence: &Sentence, name: &Name) -> bool
+    ensures { result ≡ is_named name.now sentence.now.name }
+{
+    match &sentence.name {
+        Some(defined) => name == defined,
+        None => false,
+    }
 }
 
 /// Puts these symbols, one after the other, behind those that are listed.
@@ -112,7 +132,12 @@ fn add_own<'a>(
     draft: &mut Draft<'a>,
     listed: &mut Table,
     process: &'a Proc,
-) -> Result<(), AllocError> {
+) -> Result<(), AllocError>
+    requires { IsListed listed.old draft.old.symbols.items }
+    ensures listed { OnOk result (IsListed listed.new draft.new.symbols.items) }
+    ensures below { OnOk result ((n : ℕ) → AllByRecursion (IsBelow n) draft.old.parts.items → AllByRecursion (IsBelow n) draft.new.parts.items) }
+    ensures added { OnOk result ((ms : List (List Proc)) → IsDraft ms draft.old → Added ms draft.old draft.new (process.now ∷ [])) }
+{
     let symbols = proc_symbols(alloc, process)?;
     draft.procs = total(draft.procs, 1)?;
     draft.places = total(draft.places, symbols.len() as u64)?;
@@ -127,7 +152,12 @@ fn use_symbols(
     tables: &mut Tables,
     symbols: &[u32],
     pairs: &[Pair],
-) -> Result<Vec<u32>, ExpandRefusal> {
+) -> Result<Vec<u32>, ExpandRefusal>
+    ensures listed { tables.new.listed ≡ tables.old.listed }
+    ensures fresh { IfOk result (λ fresh. fresh.items ≡ map (renamed pairs.now) symbols.now) }
+    ensures ok { IfOk result (λ _. first_fault symbols.now pairs.now ≡ None) }
+    ensures err { IfErr result (λ e. IfSome (refused_of e) (λ r. first_fault symbols.now pairs.now ≡ Some r)) }
+{
     set_pairs(&mut tables.fresh, pairs)?;
     let fresh = rename_symbols(alloc, &tables.fresh, symbols)?;
     if pairs.is_empty() {
@@ -135,8 +165,10 @@ fn use_symbols(
     }
     tally_all(&mut tables.owners, fresh.as_slice())?;
     list_all(&mut tables.symbols, symbols)?;
-    check_pairs(pairs, &tables.symbols, &tables.owners, &mut tables.earlier)?;
-    Ok(fresh)
+    match check_pairs(pairs, &tables.symbols, &tables.owners, &mut tables.earlier) {
+        Ok(()) => Ok(fresh),
+        Err(refusal) => Err(refusal),
+    }
 }
 
 fn add_use<'a>(
@@ -144,13 +176,30 @@ fn add_use<'a>(
     plan: &mut Plan<'a>,
     draft: &mut Draft<'a>,
     named: &Named,
-) -> Result<(), ExpandRefusal> {
+) -> Result<(), ExpandRefusal>
+    requires known { AreIn plan.old.names named.now.renames }
+    requires listed { IsListed plan.old.tables.listed draft.old.symbols.items }
+    ensures listed { OnOk result (IsListed plan.new.tables.listed draft.new.symbols.items) }
+    ensures names { OnOk result (plan.new.names ≡ plan.old.names) }
+    ensures sentences { OnOk result (plan.new.sentences.now ≡ plan.old.sentences.now) }
+    ensures lines { OnOk result (plan.new.lines.items ≡ plan.old.lines.items) }
+    ensures below { OnOk result (AllByRecursion (IsBelow (length plan.old.lines.items)) draft.old.parts.items
+        → AllByRecursion (IsBelow (length plan.old.lines.items)) draft.new.parts.items) }
+    ensures plan { OnOk result ((known : List Known) → IsPlan known plan.old → IsPlan known plan.new) }
+    ensures added { OnOk result ((known : List Known) → IsPlan known plan.old → IsDraft (procs_known known) draft.old →
+        AddedFactor known plan.old draft.old draft.new (factors.Named named.now)) }
+    ensures err { IfErr result (λ e. IfSome (refused_of e) (λ r. (known : List Known) → IsPlan known plan.old →
+        factor plan.old.names plan.old.sentences.now known (factors.Named named.now) ≡ Err r)) }
+{
     let of = plan.defined.insert(alloc, named.name.bytes())?;
     let Some(line) = plan.lines.get(of) else {
         return Err(missing(plan.sentences, named));
     };
     let pairs = number_pairs(alloc, &mut plan.names, named.renames.as_slice())?;
-    let fresh = use_symbols(alloc, &mut plan.tables, line.symbols.as_slice(), pairs.as_slice())?;
+    let fresh = match use_symbols(alloc, &mut plan.tables, line.symbols.as_slice(), pairs.as_slice()) {
+        Ok(fresh) => fresh,
+        Err(refusal) => return Err(refusal),
+    };
     draft.procs = total(draft.procs, line.procs)?;
     draft.places = total(draft.places, line.places)?;
     add_symbols(&mut draft.symbols, &mut plan.tables.listed, fresh.as_slice())?;
@@ -158,7 +207,12 @@ fn add_use<'a>(
     Ok(())
 }
 
-fn check_limits(draft: &Draft) -> Result<(), ExpandRefusal> {
+fn check_limits(draft: &Draft) -> Result<(), ExpandRefusal>
+    ensures ok { OnOk result ((ms : List (List Proc)) → IsDraft ms draft.now →
+        limited (procs_of_parts ms draft.now.parts.items) ≡ Ok (procs_of_parts ms draft.now.parts.items)) }
+    ensures err { IfErr result (λ e. IfSome (refused_of e) (λ r. (ms : List (List Proc)) → IsDraft ms draft.now →
+        limited (procs_of_parts ms draft.now.parts.items) ≡ Err r)) }
+{
     let symbols = draft.symbols.len();
     if symbols > MAX_SYMBOLS {
         return Err(ExpandRefusal::TooManySymbols {
@@ -177,7 +231,11 @@ fn check_limits(draft: &Draft) -> Result<(), ExpandRefusal> {
 }
 
 /// The number of a line with the same processes under other symbols: that of the line itself, if it is no single use.
-fn shape_of(lines: &[Line], draft: &Draft) -> usize {
+fn shape_of(lines: &[Line], draft: &Draft) -> usize
+    ensures { (ms : List (List Proc)) → AreLines ms lines.now → IsDraft ms draft.now →
+        AllByRecursion (IsBelow (length lines.now)) draft.now.parts.items →
+        IsShape ms (length lines.now) (procs_of_parts ms draft.now.parts.items) result }
+{
     match draft.parts.as_slice() {
         [part] => shape_of_part(lines, part, draft.symbols.len()),
         _ => lines.len(),
@@ -185,7 +243,11 @@ fn shape_of(lines: &[Line], draft: &Draft) -> usize {
 }
 
 /// The same for a line with this part alone and as many symbols.
-fn shape_of_part(lines: &[Line], part: &Part, symbols: usize) -> usize {
+fn shape_of_part(lines: &[Line], part: &Part, symbols: usize) -> usize
+    ensures { (ms : List (List Proc)) → AreLines ms lines.now → IsBelow (length lines.now) part.now →
+        symbols ≡ length (symbols_of (procs_of_parts ms (part.now ∷ []))) →
+        IsShape ms (length lines.now) (procs_of_parts ms (part.now ∷ [])) result }
+{
     match part {
         Part::Own(_) => lines.len(),
         Part::Use { of, pairs: _ } => match lines.get(*of) {
@@ -200,7 +262,19 @@ pub fn resolve<'a>(
     alloc: Global,
     plan: &mut Plan<'a>,
     factors: &'a [Factor],
-) -> Result<Line<'a>, ExpandRefusal> {
+) -> Result<Line<'a>, ExpandRefusal>
+    requires known { AllByRecursion (IsFactorIn plan.old.names) factors.now }
+    ensures names { OnOk result (plan.new.names ≡ plan.old.names) }
+    ensures sentences { OnOk result (plan.new.sentences.now ≡ plan.old.sentences.now) }
+    ensures lines { OnOk result (plan.new.lines.items ≡ plan.old.lines.items) }
+    ensures plan { OnOk result ((known : List Known) → IsPlan known plan.old → IsPlan known plan.new) }
+    ensures line { IfOk result (λ line. (known : List Known) → IsPlan known plan.old →
+        IsLine (procs_known known) (length plan.old.lines.items) line (procs_of_parts (procs_known known) line.parts.items)) }
+    ensures meaning { IfOk result (λ line. (known : List Known) → IsPlan known plan.old →
+        body plan.old.names plan.old.sentences.now known factors.now ≡ Ok (procs_of_parts (procs_known known) line.parts.items)) }
+    ensures err { IfErr result (λ e. IfSome (refused_of e) (λ r. (known : List Known) → IsPlan known plan.old →
+        body plan.old.names plan.old.sentences.now known factors.now ≡ Err r)) }
+{
     let mut draft = Draft {
         parts: Vec::new(alloc),
         symbols: Vec::new(alloc),
@@ -211,10 +285,15 @@ pub fn resolve<'a>(
     for factor in factors {
         match factor {
             Factor::Own(process) => add_own(alloc, &mut draft, &mut plan.tables.listed, process)?,
-            Factor::Named(named) => add_use(alloc, plan, &mut draft, named)?,
+            Factor::Named(named) => match add_use(alloc, plan, &mut draft, named) {
+                Ok(()) => {}
+                Err(refusal) => return Err(refusal),
+            },
         }
     }
-    check_limits(&draft)?;
+    if let Err(refusal) = check_limits(&draft) {
+        return Err(refusal);
+    }
     let shape = shape_of(plan.lines.as_slice(), &draft);
     Ok(Line {
         parts: draft.parts,
@@ -230,7 +309,14 @@ pub fn define<'a>(
     alloc: Global,
     plan: &mut Plan<'a>,
     sentence: &'a Sentence,
-) -> Result<(), ExpandRefusal> {
+) -> Result<(), ExpandRefusal>
+    requires known { AllByRecursion (IsFactorIn plan.old.names) sentence.now.factors }
+    ensures names { OnOk result (plan.new.names ≡ plan.old.names) }
+    ensures sentences { OnOk result (plan.new.sentences.now ≡ plan.old.sentences.now) }
+    ensures ok { OnOk result ((known : List Known) → IsPlanOf known plan.old → Defined known plan.old plan.new sentence.now) }
+    ensures err { IfErr result (λ e. IfSome (refused_of e) (λ r. (known : List Known) → IsPlanOf known plan.old →
+        definition plan.old.names plan.old.sentences.now known sentence.now ≡ Err r)) }
+{
     let place = match &sentence.name {
         Some(name) => plan.defined.insert(alloc, name.bytes())?,
         None => plan.defined.insert(alloc, &[])?,
@@ -238,7 +324,10 @@ pub fn define<'a>(
     if place < plan.lines.len() {
         return Err(ExpandRefusal::DefinedTwice { at: sentence.at });
     }
-    let line = resolve(alloc, plan, sentence.factors.as_slice())?;
+    let line = match resolve(alloc, plan, sentence.factors.as_slice()) {
+        Ok(line) => line,
+        Err(refusal) => return Err(refusal),
+    };
     plan.lines.push(line)?;
     Ok(())
 }
