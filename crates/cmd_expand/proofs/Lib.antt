@@ -1,3 +1,6 @@
 pub mod Tables
 pub mod Found
 pub mod Parts
+pub mod Uses
+pub mod Shapes
+pub mod Pushed

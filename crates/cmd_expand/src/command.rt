@@ -52,23 +52,17 @@ pub fn expand(alloc: Global, file: &File) -> Result<Command, ExpandRefusal>
 
 /// The command of the last line of a plan.
 fn command_of(alloc: Global, plan: Plan, line: Line) -> Result<Command, AllocError>
-    requires { IsMain plan line }
-    ensures { IfOk result (λ command. (known : List Known) → IsPlan known plan → IsMeant plan.names (procs_of_parts (procs_known known) line.parts.items) command) }
+    requires { IsMain plan.entry line.entry }
+    ensures { IfOk result (λ command. (known : List Known) → IsPlan known plan.entry → IsMeant plan.entry.names (procs_of_parts (procs_known known) line.entry.parts.items) command) }
 {
-    let Plan {
-        sentences: _,
-        names,
-        defined: _,
-        mut lines,
-        mut tables,
-    } = plan;
+    let mut plan = plan;
     let symbols = line.symbols.clone()?;
     let of = line.shape;
-    lines.push(line)?;
+    plan.lines.push(line)?;
     let mut procs = Items::new(alloc);
     let numbers = first_numbers(alloc, symbols.len())?;
-    unfold(alloc, lines.as_slice(), of, numbers.as_slice(), &mut tables, &mut procs)?;
-    let names = symbol_names(alloc, &names, symbols.as_slice())?;
+    unfold(alloc, plan.lines.as_slice(), of, numbers.as_slice(), &mut plan.tables, &mut procs)?;
+    let names = symbol_names(alloc, &plan.names, symbols.as_slice())?;
     Ok(Command { names, procs })
 }
 
@@ -95,11 +89,20 @@ fn symbol_names(
 {
     let mut set = NameSet::new(alloc);
     for symbol in symbols {
-        let copy = match names.as_slice().get(*symbol as usize) {
-            Some(name) => name.clone()?,
-            None => Name::new(alloc, &[])?,
-        };
-        set.insert(copy)?;
+        let name = copy_name(alloc, names, *symbol)?;
+        set.insert(name)?;
     }
     Ok(set)
+}
+
+fn copy_name(alloc: Global, names: &NameTable, symbol: u32) -> Result<Name, AllocError>
+    ensures { IfOk result (λ name. name ≡ get_or names.now symbol []) }
+{
+    match names.as_slice().get(symbol as usize) {
+        Some(name) => {
+            let copy = name.clone()?;
+            Ok(copy)
+        }
+        None => Name::new(alloc, &[]),
+    }
 }

@@ -6,9 +6,9 @@ ghost use Rattle.cmd_tree.specs.declared.tree.Proc.{Proc};
 ghost use Rattle.cmd_text.specs.declared.file.Factor.TheVariants as factors;
 ghost use Rattle.cmd_rename.specs.Symbols.{put_each, symbols_of};
 ghost use Rattle.cmd_rename.specs.Table.{IsListed};
-ghost use Rattle.cmd_expand.specs.Names.{AreIn, IsFactorIn};
+ghost use Rattle.cmd_expand.specs.Names.{AreIn, IsFactorIn, number, with_name};
 ghost use Rattle.cmd_expand.specs.Pairs.{renamed, first_fault};
-ghost use Rattle.cmd_expand.specs.Expansion.{Known, factor, body, definition, limited, defined_by, name_of, is_named, refused_of};
+ghost use Rattle.cmd_expand.specs.Expansion.{Known, body, definition, limited, defined_by, name_of, is_named, refused_of};
 ghost use Rattle.cmd_expand.specs.Expansion as spec;
 ghost use Rattle.cmd_expand.specs.Mirror.Plan.{procs_of_parts, procs_known, IsBelow, IsLine, IsShape, IsDraft, Added, AddedFactor, IsPlan, IsPlanOf, Defined, AreLines};
 
@@ -185,11 +185,11 @@ fn add_use<'a>(
     ensures lines { OnOk result (plan.new.lines.items ≡ plan.old.lines.items) }
     ensures below { OnOk result (AllByRecursion (IsBelow (length plan.old.lines.items)) draft.old.parts.items
         → AllByRecursion (IsBelow (length plan.old.lines.items)) draft.new.parts.items) }
-    ensures plan { OnOk result ((known : List Known) → IsPlan known plan.old → IsPlan known plan.new) }
+    ensures defined { OnOk result ((known : List Known) → IsPlan known plan.old → plan.new.defined ≡ plan.old.defined) }
     ensures added { OnOk result ((known : List Known) → IsPlan known plan.old → IsDraft (procs_known known) draft.old →
         AddedFactor known plan.old draft.old draft.new (factors.Named named.now)) }
     ensures err { IfErr result (λ e. IfSome (refused_of e) (λ r. (known : List Known) → IsPlan known plan.old →
-        factor plan.old.names plan.old.sentences.now known (factors.Named named.now) ≡ Err r)) }
+        spec.factor plan.old.names plan.old.sentences.now known (factors.Named named.now) ≡ Err r)) }
 {
     let of = plan.defined.insert(alloc, named.name.bytes())?;
     let Some(line) = plan.lines.get(of) else {
@@ -205,6 +205,36 @@ fn add_use<'a>(
     add_symbols(&mut draft.symbols, &mut plan.tables.listed, fresh.as_slice())?;
     draft.parts.push(Part::Use { of, pairs })?;
     Ok(())
+}
+
+/// Adds a factor of the sentence to what is gathered.
+fn add_factor<'a>(
+    alloc: Global,
+    plan: &mut Plan<'a>,
+    draft: &mut Draft<'a>,
+    factor: &'a Factor,
+) -> Result<(), ExpandRefusal>
+    requires known { IsFactorIn plan.old.names factor.now }
+    requires listed { IsListed plan.old.tables.listed draft.old.symbols.items }
+    ensures listed { OnOk result (IsListed plan.new.tables.listed draft.new.symbols.items) }
+    ensures names { OnOk result (plan.new.names ≡ plan.old.names) }
+    ensures sentences { OnOk result (plan.new.sentences.now ≡ plan.old.sentences.now) }
+    ensures lines { OnOk result (plan.new.lines.items ≡ plan.old.lines.items) }
+    ensures below { OnOk result (AllByRecursion (IsBelow (length plan.old.lines.items)) draft.old.parts.items
+        → AllByRecursion (IsBelow (length plan.old.lines.items)) draft.new.parts.items) }
+    ensures defined { OnOk result ((known : List Known) → IsPlan known plan.old → plan.new.defined ≡ plan.old.defined) }
+    ensures added { OnOk result ((known : List Known) → IsPlan known plan.old → IsDraft (procs_known known) draft.old →
+        AddedFactor known plan.old draft.old draft.new factor.now) }
+    ensures err { IfErr result (λ e. IfSome (refused_of e) (λ r. (known : List Known) → IsPlan known plan.old →
+        spec.factor plan.old.names plan.old.sentences.now known factor.now ≡ Err r)) }
+{
+    match factor {
+        Factor::Own(process) => {
+            add_own(alloc, draft, &mut plan.tables.listed, process)?;
+            Ok(())
+        }
+        Factor::Named(named) => add_use(alloc, plan, draft, named),
+    }
 }
 
 fn check_limits(draft: &Draft) -> Result<(), ExpandRefusal>
@@ -267,7 +297,7 @@ pub fn resolve<'a>(
     ensures names { OnOk result (plan.new.names ≡ plan.old.names) }
     ensures sentences { OnOk result (plan.new.sentences.now ≡ plan.old.sentences.now) }
     ensures lines { OnOk result (plan.new.lines.items ≡ plan.old.lines.items) }
-    ensures plan { OnOk result ((known : List Known) → IsPlan known plan.old → IsPlan known plan.new) }
+    ensures defined { OnOk result ((known : List Known) → IsPlan known plan.old → plan.new.defined ≡ plan.old.defined) }
     ensures line { IfOk result (λ line. (known : List Known) → IsPlan known plan.old →
         IsLine (procs_known known) (length plan.old.lines.items) line (procs_of_parts (procs_known known) line.parts.items)) }
     ensures meaning { IfOk result (λ line. (known : List Known) → IsPlan known plan.old →
@@ -283,12 +313,9 @@ pub fn resolve<'a>(
     };
     plan.tables.listed.clear();
     for factor in factors {
-        match factor {
-            Factor::Own(process) => add_own(alloc, &mut draft, &mut plan.tables.listed, process)?,
-            Factor::Named(named) => match add_use(alloc, plan, &mut draft, named) {
-                Ok(()) => {}
-                Err(refusal) => return Err(refusal),
-            },
+        match add_factor(alloc, plan, &mut draft, factor) {
+            Ok(()) => {}
+            Err(refusal) => return Err(refusal),
         }
     }
     if let Err(refusal) = check_limits(&draft) {
@@ -304,6 +331,27 @@ pub fn resolve<'a>(
     })
 }
 
+/// The place of the name of a definition, which is put at the end where it is not there.
+fn place_of(
+    alloc: Global,
+    defined: &mut NameTable,
+    sentence: &Sentence,
+) -> Result<usize, AllocError>
+    ensures place { IfOk result (λ place. place ≡ number defined.old (name_of sentence.now.name)) }
+    ensures names { OnOk result (defined.new ≡ with_name defined.old (name_of sentence.now.name)) }
+{
+    match &sentence.name {
+        Some(name) => {
+            let place = defined.insert(alloc, name.bytes())?;
+            Ok(place)
+        }
+        None => {
+            let place = defined.insert(alloc, &[])?;
+            Ok(place)
+        }
+    }
+}
+
 /// Puts the line of a definition behind the others.
 pub fn define<'a>(
     alloc: Global,
@@ -317,10 +365,7 @@ pub fn define<'a>(
     ensures err { IfErr result (λ e. IfSome (refused_of e) (λ r. (known : List Known) → IsPlanOf known plan.old →
         definition plan.old.names plan.old.sentences.now known sentence.now ≡ Err r)) }
 {
-    let place = match &sentence.name {
-        Some(name) => plan.defined.insert(alloc, name.bytes())?,
-        None => plan.defined.insert(alloc, &[])?,
-    };
+    let place = place_of(alloc, &mut plan.defined, sentence)?;
     if place < plan.lines.len() {
         return Err(ExpandRefusal::DefinedTwice { at: sentence.at });
     }

@@ -8,11 +8,11 @@ use Rattle.cmd_expand.proofs.unfolding.+unfold.Given as goal
 abbrev pub decreases-unfold : goal.decreases-unfold
 decreases-unfold l = l.of
 
-abbrev pub invariant-unfold-loop-piece : goal.invariant-unfold-loop-piece
-invariant-unfold-loop-piece l = record {
+abbrev pub invariant-loop-piece : goal.invariant-loop-piece
+invariant-loop-piece l = record {
   below : AllByRecursion (IsPieceBelow l.of) l.pieces.items;
   whole : (ms : List (List Proc)) → AreLines ms l.lines → l.procs ++ procs_of_stack ms l.pieces.items ≡ l.initial.procs ++ numbered_by (get_or ms l.of []) l.numbers
 }
 
-abbrev pub decreases-unfold-loop-piece : goal.decreases-unfold-loop-piece
-decreases-unfold-loop-piece l = length l.pieces.items
+abbrev pub decreases-loop-piece : goal.decreases-loop-piece
+decreases-loop-piece l = length l.pieces.items
