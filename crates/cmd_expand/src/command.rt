@@ -1,15 +1,16 @@
 //! From a command file that was read to the command of `main`.
-ghost use Rattle.std.specs.Prelude.{◌≡◌, ◌<◌, ◌^◌, List, [], map, get_or, Ok, Err, IfOk, IfErr};
-ghost use Rattle.std.specs.List.{IsDistinct, range_with_len};
+ghost use Rattle.std.specs.Prelude.{◌≡◌, ◌<◌, ◌^◌, List, [], length, get_or, Ok, Err, IfOk, IfErr};
+ghost use Rattle.std.specs.List.{IsDistinct};
 ghost use Rattle.std.specs.Str.{bytes_eq};
+ghost use Rattle.cmd_tree.specs.declared.tree.Proc.{Proc};
 ghost use Rattle.std.specs.Option.{IfSome};
 ghost use Rattle.cmd_expand.specs.Files.{IsFile};
-ghost use Rattle.cmd_expand.specs.Expansion.{Known, expansion, refused_of};
-ghost use Rattle.cmd_expand.specs.Mirror.Plan.{procs_of_parts, procs_known, IsPlan};
-ghost use Rattle.cmd_expand.specs.Mirror.Main.{IsMain, IsMeant};
+ghost use Rattle.cmd_expand.specs.Expansion.{expansion, refused_of};
+ghost use Rattle.cmd_expand.specs.Mirror.Plan.{AreLines};
+ghost use Rattle.cmd_expand.specs.Mirror.Main.{IsMain, IsMeant, names_in, counted};
 
 use crate::names::list_names;
-use crate::plan::{Line, Plan, Tables, define, resolve};
+use crate::plan::{Plan, Tables, define, resolve};
 use crate::refusal::ExpandRefusal;
 use crate::unfolding::unfold;
 use cmd_text::{File, NameTable};
@@ -38,38 +39,40 @@ pub fn expand(alloc: Global, file: &File) -> Result<Command, ExpandRefusal>
         tables: Tables::new(alloc),
     };
     for sentence in definitions {
-        if let Err(refusal) = define(alloc, &mut plan, sentence) {
-            return Err(refusal);
+        match define(alloc, &mut plan, sentence) {
+            Ok(()) => {}
+            Err(refusal) => return Err(refusal),
         }
     }
     let line = match resolve(alloc, &mut plan, main.factors.as_slice()) {
         Ok(line) => line,
         Err(refusal) => return Err(refusal),
     };
-    let command = command_of(alloc, plan, line)?;
+    let last = plan.lines.len();
+    plan.lines.push(line)?;
+    let command = command_of(alloc, &mut plan, last)?;
     Ok(command)
 }
 
-/// The command of the last line of a plan.
-fn command_of(alloc: Global, plan: Plan, line: Line) -> Result<Command, AllocError>
-    requires { IsMain plan.entry line.entry }
-    ensures { IfOk result (λ command. (known : List Known) → IsPlan known plan.entry → IsMeant plan.entry.names (procs_of_parts (procs_known known) line.entry.parts.items) command) }
+/// The command of a line.
+fn command_of(alloc: Global, plan: &mut Plan, of: usize) -> Result<Command, AllocError>
+    requires inside { of < length plan.old.lines.items }
+    requires main { IsMain plan.old of }
+    ensures { IfOk result (λ command. (ms : List (List Proc)) → AreLines ms plan.old.lines.items → IsMeant plan.old.names (get_or ms of []) command) }
 {
-    let mut plan = plan;
-    let symbols = line.symbols.clone()?;
-    let of = line.shape;
-    plan.lines.push(line)?;
+    let line = &plan.lines[of];
+    let numbers = first_numbers(alloc, line.symbols.len())?;
+    let names = symbol_names(alloc, &plan.names, line.symbols.as_slice())?;
+    let shape = line.shape;
     let mut procs = Items::new(alloc);
-    let numbers = first_numbers(alloc, symbols.len())?;
-    unfold(alloc, plan.lines.as_slice(), of, numbers.as_slice(), &mut plan.tables, &mut procs)?;
-    let names = symbol_names(alloc, &plan.names, symbols.as_slice())?;
+    unfold(alloc, plan.lines.as_slice(), shape, numbers.as_slice(), &mut plan.tables, &mut procs)?;
     Ok(Command { names, procs })
 }
 
 /// The first numbers, as many as are asked for.
 fn first_numbers(alloc: Global, count: usize) -> Result<Vec<u32>, AllocError>
     requires { count < 2 ^ 32 }
-    ensures { IfOk result (λ numbers. numbers.items ≡ range_with_len 0 count) }
+    ensures { IfOk result (λ numbers. numbers.items ≡ counted count) }
 {
     let mut numbers = Vec::new(alloc);
     for index in 0..count {
@@ -84,8 +87,8 @@ fn symbol_names(
     names: &NameTable,
     symbols: &[u32],
 ) -> Result<NameSet, AllocError>
-    requires { IsDistinct bytes_eq (map (λ a. get_or names.now a []) symbols.now) }
-    ensures { IfOk result (λ set. set ≡ map (λ a. get_or names.now a []) symbols.now) }
+    requires { IsDistinct bytes_eq (names_in names.now symbols.now) }
+    ensures { IfOk result (λ set. set ≡ names_in names.now symbols.now) }
 {
     let mut set = NameSet::new(alloc);
     for symbol in symbols {

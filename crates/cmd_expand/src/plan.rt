@@ -318,8 +318,9 @@ pub fn resolve<'a>(
             Err(refusal) => return Err(refusal),
         }
     }
-    if let Err(refusal) = check_limits(&draft) {
-        return Err(refusal);
+    match check_limits(&draft) {
+        Ok(()) => {}
+        Err(refusal) => return Err(refusal),
     }
     let shape = shape_of(plan.lines.as_slice(), &draft);
     Ok(Line {

@@ -12,7 +12,7 @@ invariant-loop-factor l = record {
   lines : l.plan.lines.items ≡ l.initial.plan.lines.items;
   listed : IsListed l.plan.tables.listed l.draft.symbols.items;
   below : AllByRecursion (IsBelow (length l.initial.plan.lines.items)) l.draft.parts.items;
-  plan : (known : List Known) → IsPlan known l.initial.plan → IsPlan known l.plan;
+  defined : (known : List Known) → IsPlan known l.initial.plan → l.plan.defined ≡ l.initial.plan.defined;
   draft : (known : List Known) → IsPlan known l.initial.plan → IsDraft (procs_known known) l.draft;
   whole : (known : List Known) → IsPlan known l.initial.plan → weave l.initial.plan.names l.initial.plan.sentences.now known l.factors
       ≡ prepend (procs_of_parts (procs_known known) l.draft.parts.items) (weave l.initial.plan.names l.initial.plan.sentences.now known (drop l.factor-index l.factors))
