@@ -98,3 +98,14 @@ defined_once known rest defined n h l = by (list_any (λ k. bytes_eq n k.name) k
     by : (b : Bool) → list_any (λ k. bytes_eq n k.name) known ≡ b → b ≡ false
     by false e = refl
     by true e = let g : place n (names_known known ++ rest) < length known = any_known known rest n true e in absurd (omega (arith, g, l, at_defined known rest defined n h))
+
+place_out : (ms : List (List ℕ)) (n : List ℕ) → length ms ≤ place n ms → list_any (bytes_eq n) ms ≡ false
+place_out [] n h = refl
+place_out (m ∷ ms) n h = by (bytes_eq n m) h (λ g. place_out ms n g)
+  where
+    by : (b : Bool) → length (m ∷ ms) ≤ cond b 0 (1 + place n ms) → (length ms ≤ place n ms → list_any (bytes_eq n) ms ≡ false) → (b || list_any (bytes_eq n) ms) ≡ false
+    by true g f = absurd (omega (arith, g))
+    by false g f = f (omega (arith, g))
+
+pub number_out : (ms : List (List ℕ)) (n : List ℕ) → length ms ≤ number ms n → list_any (bytes_eq n) ms ≡ false
+number_out ms n h = place_out ms n (omega (arith, h, place_is n ms))

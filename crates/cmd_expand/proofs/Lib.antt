@@ -4,3 +4,4 @@ pub mod Parts
 pub mod Uses
 pub mod Shapes
 pub mod Pushed
+pub mod Listed

@@ -14,6 +14,7 @@ use Rattle.cmd_expand.specs.declared.plan.Plan.{Plan}
 use Rattle.cmd_expand.specs.Names.{number, with_name}
 use Rattle.cmd_expand.specs.Pairs.{renamed}
 use Rattle.cmd_expand.specs.Expansion.{Known, defined_by}
+use Rattle.cmd_expand.proofs.Found.{number_out}
 use Rattle.cmd_expand.specs.Mirror.Plan.{procs_of_part, procs_of_parts, procs_known, IsBelow, IsShape, own, other, IsLine, AreLines, AreBelow, IsPlan, IsPlanOf}
 
 pub get_front : {A : Type 0} → (xs ys : List A) (i : ℕ) (d : A) → i < length xs → get_or (xs ++ ys) i d ≡ get_or xs i d
@@ -117,3 +118,15 @@ pub all_at : {A : Type 0} → (P : A → Type 0) (xs : List A) (i : ℕ) (x : A)
 all_at P [] i x h l e = absurd (omega arith)
 all_at P (y ∷ xs) zero x h l e = subst P (sym e) h.0
 all_at P (y ∷ xs) (suc i) x h l e = all_at P xs i x h.1 (omega arith) e
+
+-- ---- a definition that is put behind the others
+pub define_lines : (known : List Known) (n : List ℕ) (ps : List Proc) (ls us : List Line) (l : Line) → AreLines (procs_known known) ls → IsLine (procs_known known) (length ls) l ps → us ≡ ls ++ l ∷ []
+    → AreLines (procs_known (known ++ defined_by n ps ∷ [])) us
+define_lines known n ps ls us l a h e =
+    subst (λ (vs : List Line). AreLines (procs_known (known ++ defined_by n ps ∷ [])) vs) (sym e)
+        (subst (λ (ms : List (List Proc)). AreLines ms (ls ++ l ∷ [])) (sym (map-append (λ (k : Known). k.procs) known (defined_by n ps ∷ []))) (lines_pushed (procs_known known) ls l ps a h))
+
+pub define_names : (known : List Known) (n : List ℕ) (ps : List Proc) (ns ms : List (List ℕ)) → ns ≡ map (λ (k : Known). k.name) known → length ns ≤ number ns n → ms ≡ with_name ns n
+    → ms ≡ map (λ (k : Known). k.name) (known ++ defined_by n ps ∷ [])
+define_names known n ps ns ms h l e =
+    e ∙ ap (λ b. if b then ns else ns ++ n ∷ []) (number_out ns n l) ∙ ap (λ u. u ++ n ∷ []) h ∙ sym (map-append (λ (k : Known). k.name) known (defined_by n ps ∷ []))

@@ -1,13 +1,15 @@
 -- A line that is one use has the processes of a line before it under other symbols.
 use Rattle.std.proofs.Common.{◌≡◌, ℕ, zero, suc, ◌+◌, ◌<◌, ◌≤◌, Bool, true, false, ◌||◌, List, [], ◌∷◌, ◌++◌, map, length, get_or, take, drop, ◌-◌, min, refl, sym, ap, ◌∙◌, arith, subst, append-nil, append_assoc, eqb-true, eq-eqb}
 use Rattle.std.specs.Prelude.{IsTrue, nat_eq, if◌then◌else◌}
+use Rattle.std.specs.List.{AllByRecursion}
 use Rattle.std.proofs.lemmas.List.{length-map, map-append}
 use Rattle.cmd_tree.specs.declared.tree.Proc.{Proc}
 use Rattle.cmd_tree.specs.Limits.{marks_of_all}
 use Rattle.cmd_tree.specs.Lists.{is_in}
 use Rattle.cmd_rename.specs.Renaming.{ren_proc, ren_all}
-use Rattle.cmd_rename.specs.Symbols.{symbols_in, put_each, symbols_of}
+use Rattle.cmd_rename.specs.Symbols.{symbols_in, put_each, symbols_of, rank, renumbered, counted}
 use Rattle.cmd_rename.proofs.Laws.{ren_twice, ren_agree}
+use Rattle.cmd_rename.proofs.Numbering.{ranks}
 use Rattle.cmd_rename.proofs.Orders.{symbols_added, each_apart, in_each}
 use Rattle.cmd_expand.specs.declared.pairs.Pair.{Pair}
 use Rattle.cmd_expand.specs.declared.plan.Part.{Part}
@@ -15,7 +17,7 @@ use Rattle.cmd_expand.specs.declared.plan.Part.TheVariants.{Own, Use}
 use Rattle.cmd_expand.specs.declared.plan.Line.{Line}
 use Rattle.cmd_expand.specs.Pairs.{renamed}
 use Rattle.cmd_expand.specs.Mirror.Plan.{assigned, procs_of_part, procs_of_parts, IsBelow, IsShape, own, other, IsLine, AreLines}
-use Rattle.cmd_expand.specs.Mirror.Pieces.{numbered_by, procs_of_stack, procs_of_piece}
+use Rattle.cmd_expand.specs.Mirror.Pieces.{numbered_by, procs_of_stack, procs_of_piece, IsPieceBelow}
 use Rattle.cmd_expand.specs.declared.unfolding.Piece.{Piece}
 use Rattle.cmd_expand.proofs.Tables.{take_more, drop_more}
 
@@ -102,3 +104,25 @@ parts_more ms g parts left part l f h =
 
 pub map_more : (f : ℕ → ℕ) (xs : List ℕ) (i d : ℕ) → i < length xs → map f (take (i + 1) xs) ≡ map f (take i xs) ++ f (get_or xs i d) ∷ []
 map_more f xs i d h = ap (map f) (take_more xs i d h) ∙ map-append f (take i xs) (get_or xs i d ∷ [])
+
+pub stack_taken : (ms : List (List Proc)) (ps qs : List Piece) (q : Piece) (xs ys zs w : List Proc) → ps ≡ qs ++ q ∷ [] → procs_of_piece ms q ≡ zs → ys ≡ xs ++ zs → xs ++ procs_of_stack ms ps ≡ w → ys ++ procs_of_stack ms qs ≡ w
+stack_taken ms ps qs q xs ys zs w e o y h =
+    ap (λ u. u ++ procs_of_stack ms qs) y ∙ append_assoc xs zs (procs_of_stack ms qs) ∙ ap (λ u. xs ++ (u ++ procs_of_stack ms qs)) (sym o)
+    ∙ ap (λ u. xs ++ u) (sym (stack_pushed ms qs q) ∙ ap (procs_of_stack ms) (sym e)) ∙ h
+
+both_below : (n : ℕ) (qs : List Piece) (q : Piece) → AllByRecursion (IsPieceBelow n) (qs ++ q ∷ []) → AllByRecursion (IsPieceBelow n) qs × IsPieceBelow n q
+both_below n [] q h = (tt, h.0)
+both_below n (p ∷ qs) q h = let r = both_below n qs q h.1 in ((h.0, r.0), r.1)
+
+pub last_below : (n : ℕ) (ps qs : List Piece) (q : Piece) → ps ≡ qs ++ q ∷ [] → AllByRecursion (IsPieceBelow n) ps → AllByRecursion (IsPieceBelow n) qs × IsPieceBelow n q
+last_below n ps qs q e h = both_below n qs q (subst (λ (u : List Piece). AllByRecursion (IsPieceBelow n) u) e h)
+
+pub line_symbols : (ms : List (List Proc)) (ls : List Line) (of : ℕ) (line : Line) → AreLines ms ls → of < length ls → line ≡ get_or ls of line → line.symbols.items ≡ symbols_of (get_or ms of [])
+line_symbols ms ls of line a l h = (subst (λ u. IsLine ms of u (get_or ms of [])) (sym h) (a.line of line l)).symbols
+
+pub main_unfolded : (ms : List (List Proc)) (ls : List Line) (of : ℕ) (line : Line) (ns : List ℕ) → AreLines ms ls → of < length ls → line ≡ get_or ls of line → ns ≡ counted (length line.symbols.items)
+    → numbered_by (get_or ms line.shape []) ns ≡ renumbered (get_or ms of [])
+main_unfolded ms ls of line ns a l h e =
+    let ps = get_or ms of [] in
+    let s = line_symbols ms ls of line a l h in
+    line_unfolded ms ls of line (rank (symbols_of ps)) ns a l h (e ∙ ap (λ u. counted (length u)) s ∙ sym (ranks ps) ∙ ap (map (rank (symbols_of ps))) (sym s))

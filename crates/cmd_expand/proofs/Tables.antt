@@ -1,5 +1,5 @@
 -- Steps of the tables.
-use Rattle.std.proofs.Common.{◌≡◌, ◌≢◌, ℕ, zero, suc, ◌+◌, ◌<◌, take, drop, length, get_or, subst, Bool, ◌||◌, true, false, List, [], ◌∷◌, ◌++◌, Option, Some, None, refl, sym, ap, ◌∙◌, arith, eqb-true, eq-eqb, true≢false}
+use Rattle.std.proofs.Common.{◌≡◌, ◌≢◌, ℕ, zero, suc, ◌+◌, ◌<◌, ◌≤◌, take, drop, length, get_or, subst, Bool, ◌||◌, true, false, List, [], ◌∷◌, ◌++◌, Option, Some, None, refl, sym, ap, ◌∙◌, arith, eqb-true, eq-eqb, true≢false}
 use Rattle.std.specs.Prelude.{nat_eq, if◌then◌else◌, is_some}
 use Rattle.cmd_tree.specs.Lists.{is_in}
 use Rattle.cmd_rename.specs.Table.{entry, IsListed}
@@ -70,3 +70,9 @@ checked_whole xs ps i d l h n =
     h ∙ ap (first_fault_from xs ps (old_names (take i ps))) (drop_more ps i d l)
     ∙ ap (λ o. or_later o (first_fault_from xs ps ((get_or ps i d).was ∷ old_names (take i ps)) (drop (i + 1) ps))) n
     ∙ ap (λ es. first_fault_from xs ps es (drop (i + 1) ps)) (sym (ap old_names (take_more ps i d l) ∙ old_names_push (take i ps) (get_or ps i d)))
+
+pub drop_end : {A : Type 0} → (xs : List A) (i : ℕ) → length xs ≤ i → drop i xs ≡ []
+drop_end [] zero h = refl
+drop_end [] (suc i) h = refl
+drop_end (x ∷ xs) zero h = absurd (omega arith)
+drop_end (x ∷ xs) (suc i) h = drop_end xs i (omega arith)

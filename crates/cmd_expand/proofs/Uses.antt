@@ -18,7 +18,7 @@ use Rattle.cmd_expand.specs.Pairs.{pair_of, renamed, first_fault, Refused}
 use Rattle.cmd_expand.specs.Expansion.{Known, found, missing, use_of, renamed_by, factor, weave, prepend, followed, within, limited, body}
 use Rattle.cmd_expand.specs.Mirror.Plan.{procs_known, IsLine, IsPlan, AreLines}
 use Rattle.cmd_expand.proofs.Found.{found_at, found_past, number_in, inserted_in}
-use Rattle.cmd_expand.proofs.Tables.{drop_more}
+use Rattle.cmd_expand.proofs.Tables.{drop_more, drop_end}
 
 pub if_some_map : {A : Type 0} → (o : Option A) (P Q : A → Type 0) → ((r : A) → P r → Q r) → IfSome o P → IfSome o Q
 if_some_map None P Q f h = tt
@@ -72,12 +72,6 @@ module _ (names : List (List ℕ)) (file : List Sentence) (known : List Known) w
   pub weave_wrong : (fs : List Factor) (i : ℕ) (f : Factor) (ps : List Proc) (r : Refused) → i < length fs → f ≡ get_or fs i f → weave names file known fs ≡ prepend ps (weave names file known (drop i fs))
       → factor names file known f ≡ Err r → body names file known fs ≡ Err r
   weave_wrong fs i f ps r l h w e = ap within (w ∙ ap (prepend ps) (rest_of fs i f l h ∙ ap (λ u. followed u (weave names file known (drop (i + 1) fs))) e))
-
-  drop_end : {A : Type 0} → (xs : List A) (i : ℕ) → length xs ≤ i → drop i xs ≡ []
-  drop_end [] zero h = refl
-  drop_end [] (suc i) h = refl
-  drop_end (x ∷ xs) zero h = absurd (omega arith)
-  drop_end (x ∷ xs) (suc i) h = drop_end xs i (omega arith)
 
   pub weave_whole : (fs : List Factor) (i : ℕ) (ps : List Proc) → length fs ≤ i → weave names file known fs ≡ prepend ps (weave names file known (drop i fs)) → body names file known fs ≡ limited ps
   weave_whole fs i ps l w = ap within (w ∙ ap (λ u. prepend ps (weave names file known u)) (drop_end fs i l) ∙ ap Ok (append-nil ps))

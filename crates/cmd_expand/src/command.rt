@@ -4,10 +4,11 @@ ghost use Rattle.std.specs.List.{IsDistinct};
 ghost use Rattle.std.specs.Str.{bytes_eq};
 ghost use Rattle.cmd_tree.specs.declared.tree.Proc.{Proc};
 ghost use Rattle.std.specs.Option.{IfSome};
+ghost use Rattle.cmd_rename.specs.Symbols.{counted};
 ghost use Rattle.cmd_expand.specs.Files.{IsFile};
 ghost use Rattle.cmd_expand.specs.Expansion.{expansion, refused_of};
 ghost use Rattle.cmd_expand.specs.Mirror.Plan.{AreLines};
-ghost use Rattle.cmd_expand.specs.Mirror.Main.{IsMain, IsMeant, names_in, counted};
+ghost use Rattle.cmd_expand.specs.Mirror.Main.{IsMain, IsMeant, names_in};
 
 use crate::names::list_names;
 use crate::plan::{Plan, Tables, define, resolve};

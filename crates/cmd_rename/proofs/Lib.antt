@@ -2,3 +2,4 @@ pub mod Entries
 pub mod Trees
 pub mod Laws
 pub mod Orders
+pub mod Numbering

@@ -30,3 +30,8 @@ rank (x ∷ xs) a = if nat_eq a x then 0 else suc (rank xs a)
 -- the processes with their symbols numbered by first occurrence
 abbrev pub renumbered : List Proc → List Proc
 renumbered ps = ren_all (rank (symbols_of ps)) ps
+
+-- the first n numbers
+abbrev pub counted : ℕ → List ℕ
+counted zero = []
+counted (suc n) = counted n ++ n ∷ []

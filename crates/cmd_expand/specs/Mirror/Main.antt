@@ -1,5 +1,5 @@
 -- The line of `main`, and the command that is made of it.
-use Rattle.std.specs.Prelude.{◌≡◌, ℕ, zero, suc, List, [], ◌∷◌, ◌++◌, map, get_or}
+use Rattle.std.specs.Prelude.{◌≡◌, ℕ, List, [], map, get_or}
 use Rattle.cmd_tree.specs.declared.tree.Proc.{Proc}
 use Rattle.cmd_tree.specs.declared.command.Command.{Command}
 use Rattle.cmd_tree.specs.Limits.{IsCommand}
@@ -9,11 +9,6 @@ use Rattle.cmd_expand.specs.Mirror.Plan.{AreLines}
 
 abbrev pub names_in : List (List ℕ) → List ℕ → List (List ℕ)
 names_in names symbols = map (λ a. get_or names a []) symbols
-
--- the first n numbers
-abbrev pub counted : ℕ → List ℕ
-counted zero = []
-counted (suc n) = counted n ++ n ∷ []
 
 -- the lines have processes, and those of the line of this number are a command, if its symbols are numbered
 pub record IsMain (p : Plan) (of : ℕ) : Type 0 where

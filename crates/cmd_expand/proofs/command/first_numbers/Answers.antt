@@ -1,5 +1,5 @@
 use Rattle.std.proofs.Common.{◌++◌, ◌∷◌, [], add-one, ◌∙◌, sym, ap}
-use Rattle.cmd_expand.specs.Mirror.Main.{counted}
+use Rattle.cmd_rename.specs.Symbols.{counted}
 use Rattle.cmd_expand.proofs.command.first_numbers.Goals as goal
 
 pub loop-index-preserved : goal.loop-index-preserved
