@@ -5,3 +5,5 @@ pub mod Uses
 pub mod Shapes
 pub mod Pushed
 pub mod Listed
+pub mod FileRead
+pub mod Commanded

@@ -94,4 +94,4 @@ sentences_in (s ∷ ss) ns all g = (factors_in s.factors ns all (λ m h. g m (in
 
 -- the names of each renaming are among all names
 pub all_listed : (names : List (List ℕ)) (ss : List Sentence) → AllByRecursion (λ s. AllByRecursion (IsFactorIn (all_names names ss)) s.factors) ss
-all_listed names ss = sentences_in ss (with_names [] names) (all_names names ss) (λ m h. h)
+all_listed names ss = sentences_in ss names (all_names names ss) (λ m h. h)

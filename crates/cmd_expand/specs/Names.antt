@@ -34,7 +34,7 @@ with_sentences names [] = names
 with_sentences names (s ∷ ss) = with_sentences (with_factors names s.factors) ss
 
 abbrev pub all_names : List (List ℕ) → List Sentence → List (List ℕ)
-all_names names ss = with_sentences (with_names [] names) ss
+all_names names ss = with_sentences names ss
 
 -- the number of a name
 abbrev pub number : List (List ℕ) → List ℕ → ℕ

@@ -1,6 +1,8 @@
 //! The names of all symbols of a file.
 ghost use Rattle.std.specs.Prelude.{◌≡◌, IfOk, OnOk};
-ghost use Rattle.cmd_expand.specs.Names.{all_names, with_names, with_pairs, with_factors, with_sentences};
+ghost use Rattle.std.specs.List.{IsDistinct};
+ghost use Rattle.std.specs.Str.{bytes_eq};
+ghost use Rattle.cmd_expand.specs.Names.{all_names, with_pairs, with_factors, with_sentences};
 
 use cmd_text::{Factor, File, NameTable, Rename, Sentence};
 use cmd_tree::Name;
@@ -8,21 +10,24 @@ use std::alloc::{AllocError, Global};
 
 /// The names of the symbols of the file's processes, and behind them those that only renamings have.
 pub fn list_names(alloc: Global, file: &File) -> Result<NameTable, AllocError>
+    requires { IsDistinct bytes_eq file.now.names }
     ensures { IfOk result (λ names. names ≡ all_names file.now.names file.now.sentences) }
 {
-    let mut names = NameTable::new(alloc);
-    add_names(alloc, &mut names, file.names.as_slice())?;
+    let mut names = copy_names(alloc, file.names.as_slice())?;
     add_sentences(alloc, &mut names, file.sentences.as_slice())?;
     Ok(names)
 }
 
-fn add_names(alloc: Global, names: &mut NameTable, more: &[Name]) -> Result<(), AllocError>
-    ensures { OnOk result (names.new ≡ with_names names.old more.now) }
+/// A table of these names, which are different.
+fn copy_names(alloc: Global, names: &[Name]) -> Result<NameTable, AllocError>
+    requires { IsDistinct bytes_eq names.now }
+    ensures { IfOk result (λ table. table ≡ names.now) }
 {
-    for name in more {
-        names.insert(alloc, name.bytes())?;
+    let mut table = NameTable::new(alloc);
+    for name in names {
+        table.insert(alloc, name.bytes())?;
     }
-    Ok(())
+    Ok(table)
 }
 
 fn add_sentences(

@@ -137,6 +137,9 @@ symbols_renamed : (f : ℕ → ℕ) (ms : List Mark) → symbols_in (ren_marks f
 symbols_renamed f [] = refl
 symbols_renamed f (m ∷ ms) = ap (λ u. f m.sym.0 ∷ u) (symbols_renamed f ms)
 
+pub proc_symbols : (f : ℕ → ℕ) (p : Proc) → symbols_in (marks_of_proc (ren_proc f p)) ≡ map f (symbols_in (marks_of_proc p))
+proc_symbols f p = ap symbols_in (proc_marks f p) ∙ symbols_renamed f (marks_of_proc p)
+
 pub ren_symbols : (f : ℕ → ℕ) (ps : List Proc) → symbols_in (marks_of_all (ren_all f ps)) ≡ map f (symbols_in (marks_of_all ps))
 ren_symbols f ps = ap symbols_in (ren_marks_of f ps) ∙ symbols_renamed f (marks_of_all ps)
 

@@ -1,6 +1,0 @@
-use Rattle.std.proofs.Common.{◌≡◌, drop}
-use Rattle.cmd_expand.specs.Names.{with_names}
-use Rattle.cmd_expand.proofs.names.add_names.Given as goal
-
-abbrev pub invariant-loop-name : goal.invariant-loop-name
-invariant-loop-name l = with_names l.names (drop l.name-index l.more) ≡ with_names l.initial.names l.more
