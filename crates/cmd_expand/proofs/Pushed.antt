@@ -130,3 +130,11 @@ pub define_names : (known : List Known) (n : List ℕ) (ps : List Proc) (ns ms :
     → ms ≡ map (λ (k : Known). k.name) (known ++ defined_by n ps ∷ [])
 define_names known n ps ns ms h l e =
     e ∙ ap (λ b. if b then ns else ns ++ n ∷ []) (number_out ns n l) ∙ ap (λ u. u ++ n ∷ []) h ∙ sym (map-append (λ (k : Known). k.name) known (defined_by n ps ∷ []))
+
+pub all_first : {A : Type 0} → (P : A → Type 0) (xs ys : List A) → AllByRecursion P (xs ++ ys) → AllByRecursion P xs
+all_first P [] ys h = tt
+all_first P (x ∷ xs) ys h = (h.0, all_first P xs ys h.1)
+
+pub all_second : {A : Type 0} → (P : A → Type 0) (xs ys : List A) → AllByRecursion P (xs ++ ys) → AllByRecursion P ys
+all_second P [] ys h = h
+all_second P (x ∷ xs) ys h = all_second P xs ys h.1

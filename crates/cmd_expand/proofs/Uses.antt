@@ -15,7 +15,7 @@ use Rattle.cmd_expand.specs.declared.plan.Line.{Line}
 use Rattle.cmd_expand.specs.declared.plan.Plan.{Plan}
 use Rattle.cmd_expand.specs.Names.{number, with_name}
 use Rattle.cmd_expand.specs.Pairs.{pair_of, renamed, first_fault, Refused}
-use Rattle.cmd_expand.specs.Expansion.{Known, found, missing, use_of, renamed_by, factor, weave, prepend, followed, within, limited, body}
+use Rattle.cmd_expand.specs.Expansion.{Known, found, missing, use_of, renamed_by, factor, weave, prepend, followed, within, limited, body, and_then, definition, defined_by, name_of, last_of}
 use Rattle.cmd_expand.specs.Mirror.Plan.{procs_known, IsLine, IsPlan, AreLines}
 use Rattle.cmd_expand.proofs.Found.{found_at, found_past, number_in, inserted_in}
 use Rattle.cmd_expand.proofs.Tables.{drop_more, drop_end}
@@ -75,3 +75,26 @@ module _ (names : List (List ℕ)) (file : List Sentence) (known : List Known) w
 
   pub weave_whole : (fs : List Factor) (i : ℕ) (ps : List Proc) → length fs ≤ i → weave names file known fs ≡ prepend ps (weave names file known (drop i fs)) → body names file known fs ≡ limited ps
   weave_whole fs i ps l w = ap within (w ∙ ap (λ u. prepend ps (weave names file known u)) (drop_end fs i l) ∙ ap Ok (append-nil ps))
+
+-- ---- sentence by sentence
+module _ (names : List (List ℕ)) (file : List Sentence) where
+  last_cons : (known : List Known) (s : Sentence) (rest : List Sentence) (m : Sentence)
+      → last_of names file known (s ∷ rest ++ m ∷ []) ≡ and_then (definition names file known s) (λ ps. last_of names file (known ++ defined_by (name_of s.name) ps ∷ []) (rest ++ m ∷ []))
+  last_cons known s [] m = refl
+  last_cons known s (t ∷ rest) m = refl
+
+  last_at : (known : List Known) (ds : List Sentence) (i : ℕ) (s m : Sentence) → i < length ds → s ≡ get_or ds i s
+      → last_of names file known (drop i ds ++ m ∷ []) ≡ and_then (definition names file known s) (λ ps. last_of names file (known ++ defined_by (name_of s.name) ps ∷ []) (drop (i + 1) ds ++ m ∷ []))
+  last_at known ds i s m l h =
+      ap (λ u. last_of names file known (u ++ m ∷ [])) (drop_more ds i s l ∙ ap (λ u. u ∷ drop (i + 1) ds) (sym h)) ∙ last_cons known s (drop (i + 1) ds) m
+
+  pub last_more : (known : List Known) (ds : List Sentence) (i : ℕ) (s m : Sentence) (ps : List Proc) (w : Result (List Proc) Refused) → i < length ds → s ≡ get_or ds i s
+      → w ≡ last_of names file known (drop i ds ++ m ∷ []) → definition names file known s ≡ Ok ps → w ≡ last_of names file (known ++ defined_by (name_of s.name) ps ∷ []) (drop (i + 1) ds ++ m ∷ [])
+  last_more known ds i s m ps w l h e d = e ∙ last_at known ds i s m l h ∙ ap (λ u. and_then u (λ qs. last_of names file (known ++ defined_by (name_of s.name) qs ∷ []) (drop (i + 1) ds ++ m ∷ []))) d
+
+  pub last_wrong : (known : List Known) (ds : List Sentence) (i : ℕ) (s m : Sentence) (r : Refused) (w : Result (List Proc) Refused) → i < length ds → s ≡ get_or ds i s
+      → w ≡ last_of names file known (drop i ds ++ m ∷ []) → definition names file known s ≡ Err r → w ≡ Err r
+  last_wrong known ds i s m r w l h e d = e ∙ last_at known ds i s m l h ∙ ap (λ u. and_then u (λ qs. last_of names file (known ++ defined_by (name_of s.name) qs ∷ []) (drop (i + 1) ds ++ m ∷ []))) d
+
+  pub last_main : (known : List Known) (ds : List Sentence) (i : ℕ) (m : Sentence) (w : Result (List Proc) Refused) → length ds ≤ i → w ≡ last_of names file known (drop i ds ++ m ∷ []) → w ≡ body names file known m.factors
+  last_main known ds i m w l e = e ∙ ap (λ u. last_of names file known (u ++ m ∷ [])) (drop_end ds i l)
