@@ -1,5 +1,5 @@
 -- The processes of `main` with their symbols numbered are a command.
-use Rattle.std.proofs.Common.{◌≡◌, ◌≢◌, ℕ, zero, suc, ◌+◌, ◌≤◌, ◌<◌, Bool, true, false, true≢false, cond, ◌||◌, List, [], ◌∷◌, ◌++◌, map, length, length-append, get_or, Option, Some, None, Result, Ok, Err, refl, sym, ap, ◌∙◌, subst, arith, eq-eqb, eqb-true}
+use Rattle.std.proofs.Common.{◌≡◌, ◌≢◌, ℕ, zero, suc, ◌+◌, ◌≤◌, ◌<◌, Bool, true, false, true≢false, cond, ◌||◌, List, [], ◌∷◌, ◌++◌, map, length, length-append, get_or, Option, Some, None, Result, Ok, Err, refl, sym, ap, ◌∙◌, subst, arith, eq-eqb}
 use Rattle.std.specs.Prelude.{IsTrue, is_some, nat_eq, nat_lt, if◌then◌else◌}
 use Rattle.std.specs.List.{AllByRecursion, IsDistinct, list_any}
 use Rattle.std.specs.Str.{bytes_eq}
@@ -19,10 +19,9 @@ use Rattle.cmd_rename.specs.Renaming.{ren_proc, ren_all}
 use Rattle.cmd_rename.specs.Symbols.{symbols_in, symbols_of, rank, renumbered}
 use Rattle.cmd_rename.proofs.Laws.{proc_kept, body_kept, proc_brackets, proc_symbols, ren_length, ren_places}
 use Rattle.cmd_rename.proofs.Numbering.{renumbered_numbered, symbols_distinct, all_each}
-use Rattle.cmd_expand.specs.declared.pairs.Pair.{Pair}
 use Rattle.cmd_expand.specs.Names.{number, with_name, with_pairs, with_factor, with_factors, with_sentences, all_names, IsIn, AreIn, IsFactorIn}
 use Rattle.cmd_expand.specs.Pairs.{pair_of, renamed, first_fault, Refused, TooManySymbols, TooManyProcs, TooManyPlaces, DefinedTwice}
-use Rattle.cmd_expand.specs.Expansion.{Known, found, name_of, prepend, followed, renamed_by, limited, within, and_then, defined_by, use_of, factor, weave, body, definition, last_of}
+use Rattle.cmd_expand.specs.Expansion.{Known, found, name_of, followed, renamed_by, limited, within, and_then, defined_by, use_of, factor, weave, body, definition, last_of}
 use Rattle.cmd_expand.specs.Mirror.Main.{names_in}
 use Rattle.cmd_expand.proofs.Found.{place, place_is}
 use Rattle.cmd_expand.proofs.FileRead.{GoodProc, AreNames, GoodFactor, GoodSentence, GoodFile, distinct_with}
@@ -141,6 +140,7 @@ module _ (all : List (List ℕ)) (file : List Sentence) where
     where
       same_some : (qs rs : List Proc) → ◌≡◌ {A = Option (List Proc)} (Some qs) (Some rs) → qs ≡ rs
       same_some qs rs d = cc
+
       by : (b : Bool) → (if b then Some k.procs else found known n) ≡ Some ps → (found known n ≡ Some ps → Sound (length all) ps) → Sound (length all) ps
       by true d f = subst (Sound (length all)) (same_some k.procs ps d) h.0
       by false d f = f d
@@ -213,8 +213,8 @@ module _ (all : List (List ℕ)) (file : List Sentence) where
   last_sound n known (s ∷ []) ps l o h g e = body_sound n known s ps l h g.0 e
   last_sound n known (s ∷ t ∷ ss) ps l o h g e =
       then_by ps (definition all file known s) (λ qs. last_of all file (known ++ defined_by (name_of s.name) qs ∷ []) (t ∷ ss))
-          (λ qs d k. last_sound n (known ++ defined_by (name_of s.name) qs ∷ []) (t ∷ ss) ps l (omega arith)
-              (all_joined (IsGoodKnown (length all)) known (defined_by (name_of s.name) qs ∷ []) h (definition_by n known s qs (list_any (λ k. bytes_eq (name_of s.name) k.name) known) (λ b. (body_sound n known s qs l h g.0 b).0) d, tt)) g.1 k) e
+      (λ qs d k. last_sound n (known ++ defined_by (name_of s.name) qs ∷ []) (t ∷ ss) ps l (omega arith)
+      (all_joined (IsGoodKnown (length all)) known (defined_by (name_of s.name) qs ∷ []) h (definition_by n known s qs (list_any (λ k. bytes_eq (name_of s.name) k.name) known) (λ b. (body_sound n known s qs l h g.0 b).0) d, tt)) g.1 k) e
 
 -- ---- the command
 distinct_at : (ns : List (List ℕ)) (i j : ℕ) → IsDistinct bytes_eq ns → i < length ns → j < length ns → i ≢ j → bytes_eq (get_or ns i []) (get_or ns j []) ≡ false

@@ -1,11 +1,9 @@
 -- What holds of the names, processes and renamings of a file that was read.
-use Rattle.std.proofs.Common.{◌≡◌, ℕ, zero, suc, ◌+◌, ◌-◌, ◌≤◌, ◌<◌, Bool, true, false, ◌&&◌, List, [], ◌∷◌, ◌++◌, map, length, Option, Some, None, refl, sym, ap, ◌∙◌, subst, arith, append-nil}
-use Rattle.std.specs.Prelude.{IsTrue, is_some, ⊤, if◌then◌else◌}
+use Rattle.std.proofs.Common.{◌≡◌, ℕ, zero, suc, ◌≤◌, ◌<◌, Bool, true, false, ◌&&◌, List, [], ◌∷◌, ◌++◌, map, length, Option, Some, None, refl, sym, ap, ◌∙◌, subst, arith, append-nil}
+use Rattle.std.specs.Prelude.{IsTrue, is_some, if◌then◌else◌}
 use Rattle.std.specs.List.{AllByRecursion, IsDistinct, list_any}
 use Rattle.std.specs.Str.{bytes_eq}
 use Rattle.std.proofs.lemmas.List.{map-append}
-use Rattle.cmd_tree.specs.declared.tree.Dir.{Dir}
-use Rattle.cmd_tree.specs.declared.tree.Dir.TheVariants.{Input, Output}
 use Rattle.cmd_tree.specs.declared.tree.Mark.{Mark}
 use Rattle.cmd_tree.specs.declared.tree.Proc.{Proc}
 use Rattle.cmd_tree.specs.Tree.{TItem, TSeq, TSeqs, TBurst, TAlt, Stop, Or, Done, Then, marks_of, marks_in, marks_among}
@@ -14,9 +12,9 @@ use Rattle.cmd_text.specs.declared.file.Sentence.{Sentence}
 use Rattle.cmd_text.specs.declared.file.Factor.{Factor}
 use Rattle.cmd_text.specs.declared.file.Factor.TheVariants.{Own, Named}
 use Rattle.cmd_text.specs.declared.file.Rename.{Rename}
-use Rattle.cmd_text.specs.Token.{Token, Pref, Dot, Semi, Bar, Par, Open, Close, LeftSq, RightSq, Star, Ask, Bang, End, Word}
-use Rattle.cmd_text.specs.Process.{sign_of, more_marks, burst, seq, more, item, among, more_among, process, body_of, Written, IsWritten, proc_of}
-use Rattle.cmd_text.specs.File.{Placed, Hint, any, Match, Piece, Process, Call, factor_of, IsPiece, Definition, defined, IsDefinition, plain, more_pairs, pairs, piece, more_pieces, weave, definitions, IsTextOf, sentences_of, sentence_of}
+use Rattle.cmd_text.specs.Token.{Token, Pref, Dot, Semi, Open, Close, LeftSq, RightSq, Star, Ask, Bang, End, Word}
+use Rattle.cmd_text.specs.Process.{more_marks, burst, seq, more, item, among, more_among, process, body_of, Written, IsWritten, proc_of}
+use Rattle.cmd_text.specs.File.{Placed, Hint, any, Match, Piece, Process, Call, factor_of, IsPiece, Definition, defined, IsDefinition, plain, more_pairs, pairs, piece, more_pieces, weave, definitions, IsTextOf, sentence_of}
 use Rattle.cmd_text.specs.Names.{name_in, with_word, noted, names_after}
 use Rattle.cmd_text.specs.Text.{tokens, IsWord, IsToken}
 use Rattle.cmd_text.specs.Fault.{IsShallow, opened_by}

@@ -1,11 +1,10 @@
 -- A definition is found by its place among the names that are defined.
-use Rattle.std.proofs.Common.{◌≡◌, ℕ, zero, suc, ◌+◌, ◌<◌, ◌≤◌, Bool, true, false, true≢false, cond, ◌||◌, List, [], ◌∷◌, ◌++◌, map, length, get_or, Option, Some, None, refl, sym, ap, ◌∙◌, arith}
+use Rattle.std.proofs.Common.{◌≡◌, ℕ, suc, ◌+◌, ◌<◌, ◌≤◌, Bool, true, false, true≢false, cond, ◌||◌, List, [], ◌∷◌, ◌++◌, map, length, get_or, Some, None, refl, sym, ap, ◌∙◌, arith}
 use Rattle.std.specs.Prelude.{if◌then◌else◌}
-use Rattle.std.specs.List.{list_any, position_or_len}
+use Rattle.std.specs.List.{list_any}
 use Rattle.std.specs.Str.{bytes_eq}
 use Rattle.std.proofs.lemmas.List.Recursion.{is_position_or_len}
 use Rattle.indexmap.specs.IndexSet.{insert_key}
-use Rattle.cmd_tree.specs.declared.tree.Proc.{Proc}
 use Rattle.cmd_expand.specs.Names.{number}
 use Rattle.cmd_expand.specs.Expansion.{Known, found}
 use Rattle.cmd_expand.specs.Mirror.Plan.{procs_known}
@@ -57,6 +56,7 @@ any_known (k ∷ known) rest n b e = by (bytes_eq n k.name) b e (λ c. any_known
   where
     P : Bool → ℕ → ℕ → Type 0
     P c i j = cond c (i < j) (j ≤ i)
+
     by : (c d : Bool) → (c || list_any (λ l. bytes_eq n l.name) known) ≡ d → ((x : Bool) → list_any (λ l. bytes_eq n l.name) known ≡ x → P x (place n (names_known known ++ rest)) (length known))
         → P d (cond c 0 (1 + place n (names_known known ++ rest))) (length (k ∷ known))
     by true true q f = omega arith

@@ -1,18 +1,15 @@
 -- Parts that are added to what is gathered of a sentence.
-use Rattle.std.proofs.Common.{◌≡◌, ℕ, ◌+◌, ◌<◌, ◌≤◌, List, [], ◌∷◌, ◌++◌, map, length, get_or, refl, sym, ap, ◌∙◌, arith, append_assoc, append-nil, length-append, subst}
-use Rattle.std.specs.List.{AllByRecursion}
+use Rattle.std.proofs.Common.{◌≡◌, ℕ, ◌+◌, List, [], ◌∷◌, ◌++◌, map, length, refl, sym, ap, ◌∙◌, arith, append_assoc, append-nil, length-append, subst}
 use Rattle.cmd_tree.specs.declared.tree.Proc.{Proc}
-use Rattle.cmd_tree.specs.Limits.{marks_of_proc, places_of_proc, places_of_all}
+use Rattle.cmd_tree.specs.Limits.{marks_of_proc, places_of_all}
 use Rattle.cmd_rename.specs.Renaming.{ren_all}
 use Rattle.cmd_rename.specs.Symbols.{symbols_in, put_each, symbols_of}
 use Rattle.cmd_rename.proofs.Laws.{symbols_places, places_of_both, ren_places, ren_length}
 use Rattle.cmd_rename.proofs.Orders.{symbols_added, symbols_joined}
 use Rattle.cmd_expand.specs.declared.plan.Part.{Part}
-use Rattle.cmd_expand.specs.declared.plan.Part.TheVariants.{Own, Use}
 use Rattle.cmd_expand.specs.declared.plan.Line.{Line}
 use Rattle.cmd_expand.specs.declared.plan.Draft.{Draft}
-use Rattle.cmd_expand.specs.Pairs.{renamed}
-use Rattle.cmd_expand.specs.Mirror.Plan.{procs_of_part, procs_of_parts, IsBelow, IsLine, IsDraft, Added}
+use Rattle.cmd_expand.specs.Mirror.Plan.{procs_of_part, procs_of_parts, IsLine, IsDraft, Added}
 
 pub parts_both : (ms : List (List Proc)) (xs ys : List Part) → procs_of_parts ms (xs ++ ys) ≡ procs_of_parts ms xs ++ procs_of_parts ms ys
 parts_both ms [] ys = refl
@@ -23,7 +20,7 @@ pub added_by : (ms : List (List Proc)) (d e : Draft) (q : Part) → e.parts.item
     → e.places ≡ places_of_all (procs_of_parts ms d.parts.items ++ procs_of_part ms q) → Added ms d e (procs_of_part ms q)
 added_by ms d e q h s p n =
     let same : procs_of_parts ms e.parts.items ≡ procs_of_parts ms d.parts.items ++ procs_of_part ms q
-        = ap (procs_of_parts ms) h ∙ parts_both ms d.parts.items (q ∷ []) ∙ ap (λ u. procs_of_parts ms d.parts.items ++ u) (append-nil (procs_of_part ms q)) in
+    = ap (procs_of_parts ms) h ∙ parts_both ms d.parts.items (q ∷ []) ∙ ap (λ u. procs_of_parts ms d.parts.items ++ u) (append-nil (procs_of_part ms q)) in
     record {
       draft = record { symbols = s ∙ ap symbols_of (sym same); procs = p ∙ ap length (sym same); places = n ∙ ap places_of_all (sym same) };
       procs = same;

@@ -73,12 +73,12 @@ lines_pushed ms ls l qs a h = record {
     at i d f (inl k) =
         let few : i < length ms = omega (arith, k, a.many) in
         subst (λ u. IsLine (ms ++ qs ∷ []) i u (get_or (ms ++ qs ∷ []) i [])) (sym (get_front ls (l ∷ []) i d k))
-            (subst (λ u. IsLine (ms ++ qs ∷ []) i (get_or ls i d) u) (sym (get_front ms (qs ∷ []) i [] few)) (line_kept ms qs i (get_or ls i d) (get_or ms i []) (omega (arith, few)) (a.line i d k)))
+        (subst (λ u. IsLine (ms ++ qs ∷ []) i (get_or ls i d) u) (sym (get_front ms (qs ∷ []) i [] few)) (line_kept ms qs i (get_or ls i d) (get_or ms i []) (omega (arith, few)) (a.line i d k)))
     at i d f (inr e) =
         let last : i ≡ length ms = omega (arith, e, a.many) in
         subst (λ u. IsLine (ms ++ qs ∷ []) i u (get_or (ms ++ qs ∷ []) i [])) (sym (get_last ls l d i e))
-            (subst (λ u. IsLine (ms ++ qs ∷ []) i l u) (sym (get_last ms qs [] i last))
-                (subst (λ n. IsLine (ms ++ qs ∷ []) n l qs) (sym e) (line_kept ms qs (length ls) l qs (omega (arith, a.many)) h)))
+        (subst (λ u. IsLine (ms ++ qs ∷ []) i l u) (sym (get_last ms qs [] i last))
+        (subst (λ n. IsLine (ms ++ qs ∷ []) n l qs) (sym e) (line_kept ms qs (length ls) l qs (omega (arith, a.many)) h)))
 
 below_shape : (ms : List (List Proc)) (n : ℕ) (ps : List Proc) (shape : ℕ) → IsShape ms n ps shape → shape ≤ n
 below_shape ms n ps _ own = omega arith
@@ -124,7 +124,7 @@ pub define_lines : (known : List Known) (n : List ℕ) (ps : List Proc) (ls us :
     → AreLines (procs_known (known ++ defined_by n ps ∷ [])) us
 define_lines known n ps ls us l a h e =
     subst (λ (vs : List Line). AreLines (procs_known (known ++ defined_by n ps ∷ [])) vs) (sym e)
-        (subst (λ (ms : List (List Proc)). AreLines ms (ls ++ l ∷ [])) (sym (map-append (λ (k : Known). k.procs) known (defined_by n ps ∷ []))) (lines_pushed (procs_known known) ls l ps a h))
+    (subst (λ (ms : List (List Proc)). AreLines ms (ls ++ l ∷ [])) (sym (map-append (λ (k : Known). k.procs) known (defined_by n ps ∷ []))) (lines_pushed (procs_known known) ls l ps a h))
 
 pub define_names : (known : List Known) (n : List ℕ) (ps : List Proc) (ns ms : List (List ℕ)) → ns ≡ map (λ (k : Known). k.name) known → length ns ≤ number ns n → ms ≡ with_name ns n
     → ms ≡ map (λ (k : Known). k.name) (known ++ defined_by n ps ∷ [])

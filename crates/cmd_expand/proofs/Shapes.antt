@@ -1,5 +1,5 @@
 -- A line that is one use has the processes of a line before it under other symbols.
-use Rattle.std.proofs.Common.{◌≡◌, ℕ, zero, suc, ◌+◌, ◌<◌, ◌≤◌, Bool, true, false, ◌||◌, List, [], ◌∷◌, ◌++◌, map, length, get_or, take, drop, ◌-◌, min, refl, sym, ap, ◌∙◌, arith, subst, append-nil, append_assoc, eqb-true, eq-eqb}
+use Rattle.std.proofs.Common.{◌≡◌, ℕ, zero, suc, ◌+◌, ◌<◌, ◌≤◌, Bool, true, false, ◌||◌, List, [], ◌∷◌, ◌++◌, map, length, get_or, take, drop, ◌-◌, min, refl, sym, ap, ◌∙◌, arith, subst, append-nil, append_assoc, eqb-true}
 use Rattle.std.specs.Prelude.{IsTrue, nat_eq, if◌then◌else◌}
 use Rattle.std.specs.List.{AllByRecursion}
 use Rattle.std.proofs.lemmas.List.{length-map, map-append}
@@ -11,12 +11,9 @@ use Rattle.cmd_rename.specs.Symbols.{symbols_in, put_each, symbols_of, rank, ren
 use Rattle.cmd_rename.proofs.Laws.{ren_twice, ren_agree}
 use Rattle.cmd_rename.proofs.Numbering.{ranks}
 use Rattle.cmd_rename.proofs.Orders.{symbols_added, each_apart, in_each}
-use Rattle.cmd_expand.specs.declared.pairs.Pair.{Pair}
 use Rattle.cmd_expand.specs.declared.plan.Part.{Part}
-use Rattle.cmd_expand.specs.declared.plan.Part.TheVariants.{Own, Use}
 use Rattle.cmd_expand.specs.declared.plan.Line.{Line}
-use Rattle.cmd_expand.specs.Pairs.{renamed}
-use Rattle.cmd_expand.specs.Mirror.Plan.{assigned, procs_of_part, procs_of_parts, IsBelow, IsShape, own, other, IsLine, AreLines}
+use Rattle.cmd_expand.specs.Mirror.Plan.{assigned, procs_of_part, procs_of_parts, IsShape, own, other, IsLine, AreLines}
 use Rattle.cmd_expand.specs.Mirror.Pieces.{numbered_by, procs_of_stack, procs_of_piece, IsPieceBelow}
 use Rattle.cmd_expand.specs.declared.unfolding.Piece.{Piece}
 use Rattle.cmd_expand.proofs.Tables.{take_more, drop_more}

@@ -1,22 +1,19 @@
 -- What a use, and the factors of a sentence, mean by the plan.
-use Rattle.std.proofs.Common.{◌≡◌, ℕ, zero, suc, ◌+◌, ◌<◌, ◌≤◌, List, [], ◌∷◌, ◌++◌, map, length, get_or, drop, Option, Some, None, Result, Ok, Err, refl, sym, ap, ◌∙◌, arith, subst, append_assoc, append-nil, length-append}
+use Rattle.std.proofs.Common.{◌≡◌, ℕ, ◌+◌, ◌<◌, ◌≤◌, List, [], ◌∷◌, ◌++◌, map, length, get_or, drop, Option, Some, None, Result, Ok, Err, refl, sym, ap, ◌∙◌, arith, subst, append_assoc, append-nil, length-append}
 use Rattle.std.specs.Option.{IfSome}
-use Rattle.std.specs.List.{list_any}
-use Rattle.std.specs.Str.{bytes_eq}
 use Rattle.std.proofs.lemmas.List.{length-map}
 use Rattle.cmd_tree.specs.declared.tree.Proc.{Proc}
 use Rattle.cmd_text.specs.declared.file.Sentence.{Sentence}
 use Rattle.cmd_text.specs.declared.file.Factor.{Factor}
 use Rattle.cmd_text.specs.File.{Use}
-use Rattle.cmd_rename.specs.Renaming.{ren_all}
 use Rattle.cmd_rename.specs.Symbols.{symbols_of}
 use Rattle.cmd_expand.specs.declared.pairs.Pair.{Pair}
 use Rattle.cmd_expand.specs.declared.plan.Line.{Line}
 use Rattle.cmd_expand.specs.declared.plan.Plan.{Plan}
 use Rattle.cmd_expand.specs.Names.{number, with_name}
-use Rattle.cmd_expand.specs.Pairs.{pair_of, renamed, first_fault, Refused}
+use Rattle.cmd_expand.specs.Pairs.{pair_of, first_fault, Refused}
 use Rattle.cmd_expand.specs.Expansion.{Known, found, missing, use_of, renamed_by, factor, weave, prepend, followed, within, limited, body, and_then, definition, defined_by, name_of, last_of}
-use Rattle.cmd_expand.specs.Mirror.Plan.{procs_known, IsLine, IsPlan, AreLines}
+use Rattle.cmd_expand.specs.Mirror.Plan.{procs_known, IsLine, IsPlan}
 use Rattle.cmd_expand.proofs.Found.{found_at, found_past, number_in, inserted_in}
 use Rattle.cmd_expand.proofs.Tables.{drop_more, drop_end}
 

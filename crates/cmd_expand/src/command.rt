@@ -66,7 +66,14 @@ fn command_of(alloc: Global, plan: &mut Plan, of: usize) -> Result<Command, Allo
     let names = symbol_names(alloc, &plan.names, line.symbols.as_slice())?;
     let shape = line.shape;
     let mut procs = Items::new(alloc);
-    unfold(alloc, plan.lines.as_slice(), shape, numbers.as_slice(), &mut plan.tables, &mut procs)?;
+    unfold(
+        alloc,
+        plan.lines.as_slice(),
+        shape,
+        numbers.as_slice(),
+        &mut plan.tables,
+        &mut procs,
+    )?;
     Ok(Command { names, procs })
 }
 
@@ -83,11 +90,7 @@ fn first_numbers(alloc: Global, count: usize) -> Result<Vec<u32>, AllocError>
 }
 
 /// The names of these symbols, which are different.
-fn symbol_names(
-    alloc: Global,
-    names: &NameTable,
-    symbols: &[u32],
-) -> Result<NameSet, AllocError>
+fn symbol_names(alloc: Global, names: &NameTable, symbols: &[u32]) -> Result<NameSet, AllocError>
     requires { IsDistinct bytes_eq (names_in names.now symbols.now) }
     ensures { IfOk result (λ set. set ≡ names_in names.now symbols.now) }
 {

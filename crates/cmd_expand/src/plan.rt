@@ -112,11 +112,7 @@ fn defines(sentence: &Sentence, name: &Name) -> bool
 }
 
 /// Puts these symbols, one after the other, behind those that are listed.
-fn add_symbols(
-    symbols: &mut Vec<u32>,
-    listed: &mut Table,
-    more: &[u32],
-) -> Result<(), AllocError>
+fn add_symbols(symbols: &mut Vec<u32>, listed: &mut Table, more: &[u32]) -> Result<(), AllocError>
     requires { IsListed listed.old symbols.old.items }
     ensures symbols { OnOk result (symbols.new.items ≡ put_each symbols.old.items more.now) }
     ensures listed { OnOk result (IsListed listed.new symbols.new.items) }
@@ -196,13 +192,22 @@ fn add_use<'a>(
         return Err(missing(plan.sentences, named));
     };
     let pairs = number_pairs(alloc, &mut plan.names, named.renames.as_slice())?;
-    let fresh = match use_symbols(alloc, &mut plan.tables, line.symbols.as_slice(), pairs.as_slice()) {
+    let fresh = match use_symbols(
+        alloc,
+        &mut plan.tables,
+        line.symbols.as_slice(),
+        pairs.as_slice(),
+    ) {
         Ok(fresh) => fresh,
         Err(refusal) => return Err(refusal),
     };
     draft.procs = total(draft.procs, line.procs)?;
     draft.places = total(draft.places, line.places)?;
-    add_symbols(&mut draft.symbols, &mut plan.tables.listed, fresh.as_slice())?;
+    add_symbols(
+        &mut draft.symbols,
+        &mut plan.tables.listed,
+        fresh.as_slice(),
+    )?;
     draft.parts.push(Part::Use { of, pairs })?;
     Ok(())
 }

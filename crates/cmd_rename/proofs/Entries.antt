@@ -1,5 +1,5 @@
 -- Entries of a table, as they show.
-use Rattle.std.proofs.Common.{◌≡◌, ◌≢◌, ℕ, zero, suc, ◌+◌, ◌<◌, ◌≤◌, Bool, true, false, nat_eq, List, [], ◌∷◌, ◌++◌, map, length, Option, Some, None, refl, sym, ap, ◌∙◌, arith, if◌then◌else◌, eqb-true, eq-eqb, get_or, set}
+use Rattle.std.proofs.Common.{◌≡◌, ◌≢◌, ℕ, zero, suc, ◌<◌, ◌≤◌, Bool, true, false, nat_eq, List, [], ◌∷◌, ◌++◌, map, length, Option, Some, None, refl, sym, ap, arith, if◌then◌else◌, eqb-true, eq-eqb, get_or, set}
 use Rattle.std.specs.List.{AllByRecursion}
 use Rattle.cmd_rename.specs.declared.table.Entry.{Entry}
 use Rattle.cmd_rename.specs.Table.{entry}

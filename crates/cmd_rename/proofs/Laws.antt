@@ -1,7 +1,6 @@
 -- What a renaming keeps of trees.
-use Rattle.std.proofs.Common.{◌≡◌, ℕ, ◌+◌, ◌≤◌, ◌<◌, Bool, true, false, ◌||◌, List, [], ◌∷◌, ◌++◌, map, length, max, Option, Some, None, refl, sym, ap, ◌∙◌, arith, append_assoc, eq-eqb}
+use Rattle.std.proofs.Common.{◌≡◌, ℕ, ◌+◌, ◌<◌, Bool, true, false, ◌||◌, List, [], ◌∷◌, ◌++◌, map, length, max, Option, Some, None, refl, sym, ap, ◌∙◌, arith, append_assoc, eq-eqb}
 use Rattle.std.specs.Prelude.{IsTrue, nat_eq, nat_lt, is_some, if◌then◌else◌}
-use Rattle.std.specs.List.{AllByRecursion}
 use Rattle.std.proofs.lemmas.List.{map-append}
 use Rattle.cmd_tree.specs.declared.tree.Mark.{Mark}
 use Rattle.cmd_tree.specs.declared.tree.Proc.{Proc}

@@ -1,5 +1,5 @@
 -- Symbols numbered by first occurrence.
-use Rattle.std.proofs.Common.{◌≡◌, ℕ, zero, suc, ◌+◌, ◌≤◌, ◌<◌, Bool, true, false, true≢false, ◌||◌, List, [], ◌∷◌, ◌++◌, map, length, length-append, max, refl, sym, ap, ◌∙◌, subst, arith, append_assoc, append-nil, add-one, eq-eqb, eqb-true}
+use Rattle.std.proofs.Common.{◌≡◌, ℕ, suc, ◌+◌, ◌≤◌, ◌<◌, Bool, true, false, true≢false, ◌||◌, List, [], ◌∷◌, ◌++◌, map, length, length-append, max, refl, sym, ap, ◌∙◌, subst, arith, append_assoc, append-nil, add-one, eq-eqb, eqb-true}
 use Rattle.std.specs.Prelude.{IsTrue, nat_eq, if◌then◌else◌}
 use Rattle.std.specs.List.{AllByRecursion, IsDistinct}
 use Rattle.std.proofs.lemmas.List.{map-append}
@@ -9,7 +9,7 @@ use Rattle.cmd_tree.specs.Limits.{marks_of_all, IsNumbered}
 use Rattle.cmd_tree.specs.Lists.{is_in}
 use Rattle.cmd_rename.specs.Renaming.{ren_marks}
 use Rattle.cmd_rename.specs.Symbols.{symbols_in, put, put_each, symbols_of, rank, renumbered, counted}
-use Rattle.cmd_rename.proofs.Laws.{in_left, in_right, ren_marks_of}
+use Rattle.cmd_rename.proofs.Laws.{ren_marks_of}
 use Rattle.cmd_rename.proofs.Orders.{put_in, put_new}
 
 rank_front : (xs ys : List ℕ) (a : ℕ) → IsTrue (is_in a xs) → rank (xs ++ ys) a ≡ rank xs a

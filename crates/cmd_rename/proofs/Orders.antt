@@ -1,15 +1,14 @@
 -- Numbers put one after the other, each once.
-use Rattle.std.proofs.Common.{◌≡◌, ℕ, zero, suc, ◌+◌, ◌≤◌, ◌<◌, Bool, true, false, true≢false, ◌||◌, List, [], ◌∷◌, ◌++◌, map, length, length-append, max, get_or, Option, Some, None, refl, sym, ap, ◌∙◌, subst, arith, append_assoc, append-nil, eq-eqb, eqb-true}
+use Rattle.std.proofs.Common.{◌≡◌, ℕ, ◌+◌, ◌≤◌, Bool, true, false, ◌||◌, List, [], ◌∷◌, ◌++◌, map, length, length-append, refl, sym, ap, ◌∙◌, subst, arith, append_assoc, append-nil, eq-eqb, eqb-true}
 use Rattle.std.specs.Prelude.{IsTrue, nat_eq, if◌then◌else◌}
-use Rattle.std.specs.List.{AllByRecursion, IsDistinct}
 use Rattle.std.proofs.lemmas.List.{map-append}
 use Rattle.cmd_tree.specs.declared.tree.Mark.{Mark}
 use Rattle.cmd_tree.specs.declared.tree.Proc.{Proc}
-use Rattle.cmd_tree.specs.Limits.{marks_of_all, IsNumbered}
+use Rattle.cmd_tree.specs.Limits.{marks_of_all}
 use Rattle.cmd_tree.specs.Lists.{is_in}
-use Rattle.cmd_rename.specs.Renaming.{ren_mark, ren_marks, ren_all}
-use Rattle.cmd_rename.specs.Symbols.{symbols_in, put, put_each, symbols_of, rank, renumbered}
-use Rattle.cmd_rename.proofs.Laws.{in_left, in_right, ren_symbols, ren_marks_of, marks_of_both}
+use Rattle.cmd_rename.specs.Renaming.{ren_all}
+use Rattle.cmd_rename.specs.Symbols.{symbols_in, put, put_each, symbols_of}
+use Rattle.cmd_rename.proofs.Laws.{in_left, in_right, ren_symbols, marks_of_both}
 
 if_both : {A : Type 0} → (P : A → Type 0) (b : Bool) (x y : A) → (b ≡ true → P x) → (b ≡ false → P y) → P (if b then x else y)
 if_both P true x y f g = f refl
@@ -54,6 +53,7 @@ in_mapped f a (y ∷ ys) h = by (nat_eq a y) refl h (λ k. in_mapped f a ys k)
     or_second : (b c : Bool) → IsTrue c → IsTrue (b || c)
     or_second true c k = refl
     or_second false c k = k
+
     by : (b : Bool) → nat_eq a y ≡ b → IsTrue (b || is_in a ys) → (IsTrue (is_in a ys) → IsTrue (is_in (f a) (map f ys))) → IsTrue (nat_eq (f a) (f y) || is_in (f a) (map f ys))
     by true e k g = ap (λ b. b || is_in (f a) (map f ys)) (eq-eqb (f a) (f y) (ap f (eqb-true a y e)))
     by false e k g = or_second (nat_eq (f a) (f y)) (is_in (f a) (map f ys)) (g k)

@@ -2,7 +2,7 @@
 use Rattle.std.proofs.Common.{◌≡◌, ℕ, List, [], ◌∷◌, ◌++◌, map, refl, sym, ap, ◌∙◌}
 use Rattle.cmd_tree.specs.declared.tree.Item.{Item}
 use Rattle.cmd_tree.specs.declared.tree.Mark.{Mark}
-use Rattle.cmd_tree.specs.Tree.{TItem, TSeq, TSeqs, TBurst, TAlt, Stop, Or, Done, Then}
+use Rattle.cmd_tree.specs.Tree.{TItem, TSeq, Or, Done, Then}
 use Rattle.cmd_tree.specs.View.{item_of, seq_of, seqs_of}
 use Rattle.cmd_rename.specs.Renaming.{ren_seq, ren_item, ren_seqs}
 use Rattle.cmd_rename.specs.Symbols.{symbols_in}

@@ -18,11 +18,7 @@ pub fn rename_proc(alloc: Global, process: &Proc, table: &Table) -> Result<Proc,
     Ok(Proc { lead, body })
 }
 
-fn rename_part(
-    alloc: Global,
-    part: &Option<Seq>,
-    table: &Table,
-) -> Result<Option<Seq>, AllocError>
+fn rename_part(alloc: Global, part: &Option<Seq>, table: &Table) -> Result<Option<Seq>, AllocError>
     ensures { IfOk result (λ copy. copy ≡ ren_part (number_by table.now) part.now) }
 {
     match part {

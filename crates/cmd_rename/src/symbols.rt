@@ -12,7 +12,11 @@ use std::alloc::{AllocError, Global};
 
 /// Puts the symbol at the end of the list where it is not in it. `listed` has a number for the symbols of the list,
 /// and for no other.
-pub fn list_symbol(symbols: &mut Vec<u32>, listed: &mut Table, symbol: u32) -> Result<(), AllocError>
+pub fn list_symbol(
+    symbols: &mut Vec<u32>,
+    listed: &mut Table,
+    symbol: u32,
+) -> Result<(), AllocError>
     requires { IsListed listed.old symbols.old.items }
     ensures symbols { OnOk result (symbols.new.items ≡ put symbols.old.items symbol) }
     ensures listed { OnOk result (IsListed listed.new symbols.new.items) }

@@ -1,5 +1,5 @@
 -- What is left of a line that is unfolded: pieces, the first of which is the last of the list.
-use Rattle.std.specs.Prelude.{◌≡◌, ℕ, ◌<◌, List, [], ◌∷◌, ◌++◌, get_or, ⊤}
+use Rattle.std.specs.Prelude.{ℕ, ◌<◌, List, [], ◌∷◌, ◌++◌, get_or, ⊤}
 use Rattle.cmd_tree.specs.declared.tree.Proc.{Proc}
 use Rattle.cmd_rename.specs.Renaming.{ren_all}
 use Rattle.cmd_rename.specs.Symbols.{symbols_of}

@@ -1,4 +1,4 @@
-use Rattle.std.proofs.Common.{◌≡◌, ◌<◌, ℕ, List, ◌∙◌, ◌++◌, [], length, get_or, sym, ap, subst, rules}
+use Rattle.std.proofs.Common.{◌≡◌, ℕ, List, ◌∙◌, ◌++◌, [], length, get_or, sym, ap, subst, rules}
 use Rattle.cmd_tree.specs.declared.tree.Proc.{Proc}
 use Rattle.cmd_tree.specs.Limits.{IsCommand}
 use Rattle.cmd_rename.specs.Symbols.{symbols_of, renumbered, counted}
@@ -18,11 +18,11 @@ invariant_of-result c =
     let a = c.requires.main.lines in
     let n : c.len.result ≡ length line.symbols.items = search rules in
     let names : c.in_ok-names.names ≡ names_in c.args.plan.now.names (symbols_of (get_or ms of []))
-        = c.in_ok-names.ensures ∙ ap (names_in c.args.plan.now.names) (c.as_slice.ensures.value ∙ line_symbols ms ls of line a c.requires.inside c.index-line.ensures) in
+    = c.in_ok-names.ensures ∙ ap (names_in c.args.plan.now.names) (c.as_slice.ensures.value ∙ line_symbols ms ls of line a c.requires.inside c.index-line.ensures) in
     let procs : c.unfold.new.procs ≡ renumbered (get_or ms of [])
-        = c.in_ok-unfold.ensures ms (subst (λ (u : List Line). AreLines ms u) (sym c.as_slice-2.ensures.value) a)
-          ∙ ap (λ (u : List Proc). u ++ numbered_by (get_or ms line.shape []) c.as_slice-3.result.now) c.new-procs.ensures
-          ∙ main_unfolded ms ls of line c.as_slice-3.result.now a c.requires.inside c.index-line.ensures (c.as_slice-3.ensures.value ∙ c.in_ok-numbers.ensures ∙ ap counted n) in
+    = c.in_ok-unfold.ensures ms (subst (λ (u : List Line). AreLines ms u) (sym c.as_slice-2.ensures.value) a)
+    ∙ ap (λ (u : List Proc). u ++ numbered_by (get_or ms line.shape []) c.as_slice-3.result.now) c.new-procs.ensures
+    ∙ main_unfolded ms ls of line c.as_slice-3.result.now a c.requires.inside c.index-line.ensures (c.as_slice-3.ensures.value ∙ c.in_ok-numbers.ensures ∙ ap counted n) in
     record { valid = subst (λ (ns : List (List ℕ)). IsCommand ns c.unfold.new.procs) (sym names) (subst (λ (ps : List Proc). IsCommand (names_in c.args.plan.now.names (symbols_of (get_or ms of []))) ps) (sym procs) c.requires.main.valid) }
 
 pub returns : goal.returns

@@ -1,4 +1,4 @@
-use Rattle.std.proofs.Common.{◌≡◌, ◌++◌, ◌∷◌, List, [], ℕ, length, get_or, Result, Ok, Err, sym, ap, ◌∙◌, refl, arith, subst, rules}
+use Rattle.std.proofs.Common.{◌≡◌, ◌++◌, ◌∷◌, List, [], ℕ, length, get_or, Ok, sym, ap, ◌∙◌, arith, subst, rules}
 use Rattle.std.specs.List.{AllByRecursion}
 use Rattle.cmd_tree.specs.declared.tree.Proc.{Proc}
 use Rattle.cmd_tree.specs.Limits.{IsCommand}
@@ -6,8 +6,8 @@ use Rattle.cmd_text.specs.declared.file.Sentence.{Sentence}
 use Rattle.cmd_text.specs.declared.file.Factor.{Factor}
 use Rattle.cmd_rename.specs.Symbols.{symbols_of, renumbered}
 use Rattle.cmd_expand.specs.Names.{all_names, IsFactorIn}
-use Rattle.cmd_expand.specs.Expansion.{Known, definition, body, defined_by, name_of, last_of, command_of, refused_of}
-use Rattle.cmd_expand.specs.Mirror.Plan.{procs_known, procs_of_parts, IsPlanOf, AreLines}
+use Rattle.cmd_expand.specs.Expansion.{definition, body, defined_by, name_of, last_of, command_of, refused_of}
+use Rattle.cmd_expand.specs.Mirror.Plan.{procs_known, procs_of_parts, AreLines}
 use Rattle.cmd_expand.specs.Mirror.Main.{names_in}
 use Rattle.cmd_expand.proofs.Uses.{if_some_map, last_more, last_wrong, last_main}
 use Rattle.cmd_expand.proofs.Pushed.{plan_exact, lines_pushed, get_last, all_at, all_first, all_second}
@@ -47,7 +47,7 @@ define-requires c =
     let defs = c.in-Some.definitions.now in
     let P = λ (u : Sentence). AllByRecursion (IsFactorIn all) u.factors in
     let listed : AllByRecursion (λ (u : Sentence). AllByRecursion (IsFactorIn all) u.factors) (defs ++ c.in-Some.main.now ∷ [])
-        = subst (λ (us : List Sentence). AllByRecursion (λ (u : Sentence). AllByRecursion (IsFactorIn all) u.factors) us) (sym c.as_slice-sentences.ensures ∙ c.in-Some.ensures.cases.0) (all_listed names ss) in
+    = subst (λ (us : List Sentence). AllByRecursion (λ (u : Sentence). AllByRecursion (IsFactorIn all) u.factors) us) (sym c.as_slice-sentences.ensures ∙ c.in-Some.ensures.cases.0) (all_listed names ss) in
     record {
       known = subst (λ (ns : List (List ℕ)). AllByRecursion (IsFactorIn ns) s.factors) (sym inv.names)
           (all_at P defs c.loop-sentence.sentence-index s (all_first P defs (c.in-Some.main.now ∷ []) listed) c.loop-sentence-test.true c.sentence-item.is);
@@ -61,9 +61,9 @@ returns-in-Err-clause-refused c =
     let inv = c.loop-sentence.invariant in
     let s = c.sentence-item.result in
     if_some_map (refused_of c.in-Err.refusal) _ _
-        (λ r h. ap (command_of all) (last_wrong all ss inv.known c.in-Some.definitions.now c.loop-sentence.sentence-index s c.in-Some.main.now r (last_of all ss [] ss) c.loop-sentence-test.true c.sentence-item.is inv.whole
-            ((λ k. definition (sym inv.names k) (sym inv.sentences k) inv.known s) ∙ h inv.known inv.plan)))
-        c.in-Err.ensures.err
+    (λ r h. ap (command_of all) (last_wrong all ss inv.known c.in-Some.definitions.now c.loop-sentence.sentence-index s c.in-Some.main.now r (last_of all ss [] ss) c.loop-sentence-test.true c.sentence-item.is inv.whole
+    ((λ k. definition (sym inv.names k) (sym inv.sentences k) inv.known s) ∙ h inv.known inv.plan)))
+    c.in-Err.ensures.err
 
 pub loop-sentence-preserved : goal.loop-sentence-preserved
 loop-sentence-preserved c =
@@ -91,7 +91,7 @@ resolve-requires c =
     let defs = c.in-Some.definitions.now in
     let P = λ (u : Sentence). AllByRecursion (IsFactorIn all) u.factors in
     let listed : AllByRecursion (λ (u : Sentence). AllByRecursion (IsFactorIn all) u.factors) (defs ++ c.in-Some.main.now ∷ [])
-        = subst (λ (us : List Sentence). AllByRecursion (λ (u : Sentence). AllByRecursion (IsFactorIn all) u.factors) us) (sym c.as_slice-sentences.ensures ∙ c.in-Some.ensures.cases.0) (all_listed names ss) in
+    = subst (λ (us : List Sentence). AllByRecursion (λ (u : Sentence). AllByRecursion (IsFactorIn all) u.factors) us) (sym c.as_slice-sentences.ensures ∙ c.in-Some.ensures.cases.0) (all_listed names ss) in
     record {
       known = subst (λ (ns : List (List ℕ)). AllByRecursion (IsFactorIn ns) c.as_slice.result.now) (sym inv.names)
           (subst (λ (fs : List Factor). AllByRecursion (IsFactorIn all) fs) (sym c.as_slice.ensures) (all_second P defs (c.in-Some.main.now ∷ []) listed).0);
@@ -104,9 +104,9 @@ returns-in-Err-resolve-clause-refused c =
     let all = all_names names ss in
     let inv = c.loop-sentence.invariant in
     if_some_map (refused_of c.in-Err-resolve.refusal) _ _
-        (λ r h. ap (command_of all) (last_main all ss inv.known c.in-Some.definitions.now c.loop-sentence.sentence-index c.in-Some.main.now (last_of all ss [] ss) c.loop-sentence-test.false inv.whole
-            ∙ (λ k. body (sym inv.names k) (sym inv.sentences k) inv.known (sym c.as_slice.ensures k)) ∙ h inv.known (plan_exact inv.known c.loop-sentence.plan inv.plan)))
-        c.in-Err-resolve.ensures.err
+    (λ r h. ap (command_of all) (last_main all ss inv.known c.in-Some.definitions.now c.loop-sentence.sentence-index c.in-Some.main.now (last_of all ss [] ss) c.loop-sentence-test.false inv.whole
+    ∙ (λ k. body (sym inv.names k) (sym inv.sentences k) inv.known (sym c.as_slice.ensures k)) ∙ h inv.known (plan_exact inv.known c.loop-sentence.plan inv.plan)))
+    c.in-Err-resolve.ensures.err
 
 pub command_of-requires-clause-main : goal.command_of-requires-clause-main
 command_of-requires-clause-main c =
@@ -118,7 +118,7 @@ command_of-requires-clause-main c =
     let ms = procs_known inv.known in
     let ps = procs_of_parts ms c.in-Ok-resolve.line.parts.items in
     let meaning = last_main all ss inv.known c.in-Some.definitions.now c.loop-sentence.sentence-index c.in-Some.main.now (last_of all ss [] ss) c.loop-sentence-test.false inv.whole
-        ∙ (λ k. body (sym inv.names k) (sym inv.sentences k) inv.known (sym c.as_slice.ensures k)) ∙ c.in-Ok-resolve.ensures.meaning inv.known exact in
+    ∙ (λ k. body (sym inv.names k) (sym inv.sentences k) inv.known (sym c.as_slice.ensures k)) ∙ c.in-Ok-resolve.ensures.meaning inv.known exact in
     let count : c.len-last.result ≡ length c.resolve.new.plan.lines.items = search rules in
     let place : c.len-last.result ≡ length ms = count ∙ ap length c.in-Ok-resolve.ensures.lines ∙ sym inv.plan.lines.many in
     let last : get_or (ms ++ ps ∷ []) c.len-last.result [] ≡ ps = get_last ms ps [] c.len-last.result place in
@@ -141,13 +141,13 @@ returns-clause-ok c =
     let ms = procs_known inv.known in
     let ps = procs_of_parts ms c.in-Ok-resolve.line.parts.items in
     let meaning = last_main all ss inv.known c.in-Some.definitions.now c.loop-sentence.sentence-index c.in-Some.main.now (last_of all ss [] ss) c.loop-sentence-test.false inv.whole
-        ∙ (λ k. body (sym inv.names k) (sym inv.sentences k) inv.known (sym c.as_slice.ensures k)) ∙ c.in-Ok-resolve.ensures.meaning inv.known exact in
+    ∙ (λ k. body (sym inv.names k) (sym inv.sentences k) inv.known (sym c.as_slice.ensures k)) ∙ c.in-Ok-resolve.ensures.meaning inv.known exact in
     let count : c.len-last.result ≡ length c.resolve.new.plan.lines.items = search rules in
     let place : c.len-last.result ≡ length ms = count ∙ ap length c.in-Ok-resolve.ensures.lines ∙ sym inv.plan.lines.many in
     let last : get_or (ms ++ ps ∷ []) c.len-last.result [] ≡ ps = get_last ms ps [] c.len-last.result place in
     let same : c.resolve.new.plan.names ≡ all = c.in-Ok-resolve.ensures.names ∙ inv.names in
     let lines = subst (λ ls. AreLines (ms ++ ps ∷ []) ls) (sym (c.in_ok-push.ensures.items ∙ ap (λ u. u ++ c.in-Ok-resolve.line ∷ []) c.in-Ok-resolve.ensures.lines))
-        (lines_pushed ms c.loop-sentence.plan.lines.items c.in-Ok-resolve.line ps inv.plan.lines (c.in-Ok-resolve.ensures.line inv.known exact)) in
+    (lines_pushed ms c.loop-sentence.plan.lines.items c.in-Ok-resolve.line ps inv.plan.lines (c.in-Ok-resolve.ensures.line inv.known exact)) in
     let d = c.in_ok-command.ensures (ms ++ ps ∷ []) lines in
     let e : names_in all (symbols_of ps) ≡ c.in_ok-command.command.names = sym (d.names ∙ (λ k. names_in (same k) (symbols_of (last k)))) in
     let g : renumbered ps ≡ c.in_ok-command.command.procs = sym (d.procs ∙ ap renumbered last) in

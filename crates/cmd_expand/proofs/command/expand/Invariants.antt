@@ -11,5 +11,5 @@ invariant-loop-sentence l = record {
   known : List Known;
   plan : IsPlanOf known l.plan;
   whole : last_of (all_names l.file.names l.file.sentences) l.file.sentences [] l.file.sentences
-      ≡ last_of (all_names l.file.names l.file.sentences) l.file.sentences known (drop l.sentence-index l.definitions ++ l.main ∷ [])
+      ≡ last_of (all_names l.file.names l.file.sentences) l.file.sentences known (drop l.sentence-index l.definitions ++ l.main ∷ []);
 }

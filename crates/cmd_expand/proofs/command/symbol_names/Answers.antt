@@ -1,4 +1,4 @@
-use Rattle.std.proofs.Common.{◌∙◌, [], sym, ap}
+use Rattle.std.proofs.Common.{◌∙◌, sym, ap}
 use Rattle.cmd_expand.specs.Names.{with_names}
 use Rattle.cmd_expand.specs.Mirror.Main.{names_in}
 use Rattle.cmd_expand.proofs.Tables.{drop_end}

@@ -8,5 +8,5 @@ abbrev pub invariant-loop-pair : goal.invariant-loop-pair
 invariant-loop-pair l = record {
   earlier : IsListed l.earlier (old_names (take l.pair-index l.pairs));
   whole : (xs : List ℕ) → IsListed l.symbols xs → Tallies l.owners (map (renamed l.pairs) xs) →
-      first_fault xs l.pairs ≡ first_fault_from xs l.pairs (old_names (take l.pair-index l.pairs)) (drop l.pair-index l.pairs)
+      first_fault xs l.pairs ≡ first_fault_from xs l.pairs (old_names (take l.pair-index l.pairs)) (drop l.pair-index l.pairs);
 }

@@ -1,4 +1,4 @@
-use Rattle.std.proofs.Common.{◌≡◌, ◌<◌, ◌≤◌, ℕ, List, [], map, length, get_or, sym, ap, ◌∙◌, refl, arith, Ok, Some, None}
+use Rattle.std.proofs.Common.{◌<◌, ◌≤◌, [], map, length, get_or, sym, ap, ◌∙◌, arith}
 use Rattle.cmd_rename.specs.Renaming.{ren_all}
 use Rattle.cmd_expand.specs.declared.plan.Part.TheVariants.{Use}
 use Rattle.cmd_expand.specs.Names.{number}
@@ -14,7 +14,7 @@ returns-in_default-clause-err c =
     let plan = c.args.plan.now in
     let past : length c.deref.result.now ≤ c.in_ok-of.of = (rw c.in_default.is at c.get.ensures.lookup).3 in
     if_some_is (refused_of c.missing.result) (missing plan.names plan.sentences.now c.args.named.now) _ (c.missing.ensures plan.names)
-        (λ known p. use_missing known plan c.args.named.now c.in_ok-of.of p (c.in_ok-of.ensures.index ∙ ap (number plan.defined) c.bytes.ensures) (omega (arith, past, ap length c.deref.ensures.value)))
+    (λ known p. use_missing known plan c.args.named.now c.in_ok-of.of p (c.in_ok-of.ensures.index ∙ ap (number plan.defined) c.bytes.ensures) (omega (arith, past, ap length c.deref.ensures.value)))
 
 pub returns-in-Err-clause-err : goal.returns-in-Err-clause-err
 returns-in-Err-clause-err c =
@@ -23,10 +23,10 @@ returns-in-Err-clause-err c =
     let pairs = c.as_slice-3.result.now in
     let inside : c.in_ok-of.of < length c.deref.result.now = c.in-Some.ensures.lookup.3.0 in
     if_some_map (refused_of c.in-Err.refusal) _ _
-        (λ r h known p. use_found known plan c.args.named.now c.deref.result.now c.in_ok-of.of line pairs p (c.in_ok-of.ensures.index ∙ ap (number plan.defined) c.bytes.ensures) c.deref.ensures.value inside
-            (c.in-Some.ensures.lookup.3.1 line) (c.as_slice-3.ensures.value ∙ c.in_ok-pairs.ensures.pairs ∙ ap (map (pair_of plan.names)) c.as_slice.ensures)
-            ∙ ap (renamed_by pairs (get_or (procs_known known) c.in_ok-of.of [])) (ap (λ u. first_fault u pairs) (sym c.as_slice-2.ensures.value) ∙ h))
-        c.in-Err.ensures.err
+    (λ r h known p. use_found known plan c.args.named.now c.deref.result.now c.in_ok-of.of line pairs p (c.in_ok-of.ensures.index ∙ ap (number plan.defined) c.bytes.ensures) c.deref.ensures.value inside
+    (c.in-Some.ensures.lookup.3.1 line) (c.as_slice-3.ensures.value ∙ c.in_ok-pairs.ensures.pairs ∙ ap (map (pair_of plan.names)) c.as_slice.ensures)
+    ∙ ap (renamed_by pairs (get_or (procs_known known) c.in_ok-of.of [])) (ap (λ u. first_fault u pairs) (sym c.as_slice-2.ensures.value) ∙ h))
+    c.in-Err.ensures.err
 
 pub returns-clause-defined : goal.returns-clause-defined
 returns-clause-defined c =

@@ -1,7 +1,6 @@
-use Rattle.std.proofs.Common.{◌≡◌, ◌<◌, ◌≤◌, ℕ, List, [], ◌∷◌, ◌++◌, length, map, sym, ap, ◌∙◌, refl, arith, rules, Err}
+use Rattle.std.proofs.Common.{◌≡◌, [], ◌∷◌, ◌++◌, length, sym, ap, ◌∙◌, refl, arith, rules, Err}
 use Rattle.std.specs.Prelude.{if◌then◌else◌}
 use Rattle.std.proofs.lemmas.List.{length-map}
-use Rattle.cmd_expand.specs.Names.{number}
 use Rattle.cmd_expand.specs.Pairs.{DefinedTwice}
 use Rattle.cmd_expand.specs.Expansion.{Known, body, name_of, refused_of}
 use Rattle.cmd_expand.specs.Mirror.Plan.{procs_known, procs_of_parts}
@@ -17,7 +16,7 @@ returns-then-place-len-clause-err c = λ known p.
     let q = plan_exact known plan p in
     let many : c.len.result ≡ length c.args.plan.now.lines.items = search rules in
     ap (λ b. if b then Err (DefinedTwice s.at) else body plan.names plan.sentences.now known s.factors)
-        (defined_twice known q.rest plan.defined (name_of s.name) q.defined (omega (arith, c.in_ok-place.ensures.place, c.if-place-len.true, many, known_length known plan q)))
+    (defined_twice known q.rest plan.defined (name_of s.name) q.defined (omega (arith, c.in_ok-place.ensures.place, c.if-place-len.true, many, known_length known plan q)))
 
 pub returns-in-Err-clause-err : goal.returns-in-Err-clause-err
 returns-in-Err-clause-err c =
@@ -25,13 +24,13 @@ returns-in-Err-clause-err c =
     let s = c.args.sentence.now in
     let many : c.len.result ≡ length c.args.plan.now.lines.items = search rules in
     if_some_map (refused_of c.in-Err.refusal) _ _
-        (λ r h known p.
-            let q = plan_exact known plan p in
-            ap (λ b. if b then Err (DefinedTwice s.at) else body plan.names plan.sentences.now known s.factors)
-                (defined_once known q.rest plan.defined (name_of s.name) q.defined (omega (arith, c.in_ok-place.ensures.place, c.if-place-len.false, many, known_length known plan q)))
-            ∙ ap (body plan.names plan.sentences.now known) (sym c.as_slice.ensures)
-            ∙ h known (plan_grown known plan (record { sentences = plan.sentences; names = plan.names; defined = c.place_of.new.defined; lines = plan.lines; tables = plan.tables }) (name_of s.name) p c.in_ok-place.ensures.names refl))
-        c.in-Err.ensures.err
+    (λ r h known p.
+    let q = plan_exact known plan p in
+    ap (λ b. if b then Err (DefinedTwice s.at) else body plan.names plan.sentences.now known s.factors)
+    (defined_once known q.rest plan.defined (name_of s.name) q.defined (omega (arith, c.in_ok-place.ensures.place, c.if-place-len.false, many, known_length known plan q)))
+    ∙ ap (body plan.names plan.sentences.now known) (sym c.as_slice.ensures)
+    ∙ h known (plan_grown known plan (record { sentences = plan.sentences; names = plan.names; defined = c.place_of.new.defined; lines = plan.lines; tables = plan.tables }) (name_of s.name) p c.in_ok-place.ensures.names refl))
+    c.in-Err.ensures.err
 
 pub returns-clause-ok : goal.returns-clause-ok
 returns-clause-ok c = λ known p.
@@ -45,7 +44,7 @@ returns-clause-ok c = λ known p.
     record {
       procs = ps;
       is = ap (λ b. if b then Err (DefinedTwice s.at) else body plan.names plan.sentences.now known s.factors)
-              (defined_once known q.rest plan.defined n q.defined (omega (arith, c.in_ok-place.ensures.place, c.if-place-len.false, many, known_length known plan q)))
+          (defined_once known q.rest plan.defined n q.defined (omega (arith, c.in_ok-place.ensures.place, c.if-place-len.false, many, known_length known plan q)))
           ∙ ap (body plan.names plan.sentences.now known) (sym c.as_slice.ensures) ∙ c.in-Ok.ensures.meaning known g;
       plan = record {
         defined = define_names known n ps plan.defined c.resolve.new.plan.defined p.defined

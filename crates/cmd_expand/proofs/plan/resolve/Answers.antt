@@ -1,4 +1,4 @@
-use Rattle.std.proofs.Common.{◌≡◌, ◌<◌, ℕ, List, length, sym, ap, ◌∙◌, refl, arith, subst}
+use Rattle.std.proofs.Common.{◌≡◌, List, length, sym, ◌∙◌, refl, subst}
 use Rattle.std.specs.List.{AllByRecursion}
 use Rattle.cmd_expand.specs.declared.plan.Line.{Line}
 use Rattle.cmd_expand.specs.Expansion.{Known, factor, refused_of}
@@ -12,10 +12,10 @@ returns-in-Err-clause-err c =
     let inv = c.loop-factor.invariant in
     let plan = c.args.plan.now in
     if_some_map (refused_of c.in-Err.refusal) _ _
-        (λ r h known p. weave_wrong plan.names plan.sentences.now known c.args.factors.now c.loop-factor.factor-index c.factor-item.result (procs_of_parts (procs_known known) c.loop-factor.draft.parts.items) r
-            c.loop-factor-test.true c.factor-item.is (inv.whole known p)
-            ((λ k. factor (sym inv.names k) (sym inv.sentences k) known c.factor-item.result) ∙ h known (plan_same known plan c.loop-factor.plan p (inv.defined known p) inv.lines)))
-        c.in-Err.ensures.err
+    (λ r h known p. weave_wrong plan.names plan.sentences.now known c.args.factors.now c.loop-factor.factor-index c.factor-item.result (procs_of_parts (procs_known known) c.loop-factor.draft.parts.items) r
+    c.loop-factor-test.true c.factor-item.is (inv.whole known p)
+    ((λ k. factor (sym inv.names k) (sym inv.sentences k) known c.factor-item.result) ∙ h known (plan_same known plan c.loop-factor.plan p (inv.defined known p) inv.lines)))
+    c.in-Err.ensures.err
 
 pub loop-factor-preserved : goal.loop-factor-preserved
 loop-factor-preserved c =
@@ -32,8 +32,8 @@ loop-factor-preserved c =
       draft = λ known p. (c.in-Ok.ensures.added known (now known p) (inv.draft known p)).added.draft;
       whole = λ known p. let a = c.in-Ok.ensures.added known (now known p) (inv.draft known p) in
           weave_more plan.names plan.sentences.now known c.args.factors.now c.loop-factor.factor-index c.factor-item.result (procs_of_parts (procs_known known) c.loop-factor.draft.parts.items) a.procs
-              (procs_of_parts (procs_known known) c.add_factor.new.draft.parts.items) c.loop-factor-test.true c.factor-item.is (inv.whole known p)
-              ((λ k. factor (sym inv.names k) (sym inv.sentences k) known c.factor-item.result) ∙ a.is) a.added.procs;
+          (procs_of_parts (procs_known known) c.add_factor.new.draft.parts.items) c.loop-factor-test.true c.factor-item.is (inv.whole known p)
+          ((λ k. factor (sym inv.names k) (sym inv.sentences k) known c.factor-item.result) ∙ a.is) a.added.procs;
     }
 
 pub returns-in-Err-check_limits-clause-err : goal.returns-in-Err-check_limits-clause-err
@@ -41,16 +41,16 @@ returns-in-Err-check_limits-clause-err c =
     let inv = c.loop-factor.invariant in
     let plan = c.args.plan.now in
     if_some_map (refused_of c.in-Err-check_limits.refusal) _ _
-        (λ r h known p. weave_whole plan.names plan.sentences.now known c.args.factors.now c.loop-factor.factor-index (procs_of_parts (procs_known known) c.loop-factor.draft.parts.items)
-            c.loop-factor-test.false (inv.whole known p) ∙ h (procs_known known) (inv.draft known p))
-        c.in-Err-check_limits.ensures.err
+    (λ r h known p. weave_whole plan.names plan.sentences.now known c.args.factors.now c.loop-factor.factor-index (procs_of_parts (procs_known known) c.loop-factor.draft.parts.items)
+    c.loop-factor-test.false (inv.whole known p) ∙ h (procs_known known) (inv.draft known p))
+    c.in-Err-check_limits.ensures.err
 
 pub returns-clause-meaning : goal.returns-clause-meaning
 returns-clause-meaning c = λ known p.
     let inv = c.loop-factor.invariant in
     let plan = c.args.plan.now in
     weave_whole plan.names plan.sentences.now known c.args.factors.now c.loop-factor.factor-index (procs_of_parts (procs_known known) c.loop-factor.draft.parts.items)
-        c.loop-factor-test.false (inv.whole known p) ∙ c.in-Ok-check_limits.ensures.ok (procs_known known) (inv.draft known p)
+    c.loop-factor-test.false (inv.whole known p) ∙ c.in-Ok-check_limits.ensures.ok (procs_known known) (inv.draft known p)
 
 pub returns-clause-line : goal.returns-clause-line
 returns-clause-line c = λ known p.

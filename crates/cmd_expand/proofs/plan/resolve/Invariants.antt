@@ -15,5 +15,5 @@ invariant-loop-factor l = record {
   defined : (known : List Known) → IsPlan known l.fn.plan → l.plan.defined ≡ l.fn.plan.defined;
   draft : (known : List Known) → IsPlan known l.fn.plan → IsDraft (procs_known known) l.draft;
   whole : (known : List Known) → IsPlan known l.fn.plan → weave l.fn.plan.names l.fn.plan.sentences.now known l.factors
-      ≡ prepend (procs_of_parts (procs_known known) l.draft.parts.items) (weave l.fn.plan.names l.fn.plan.sentences.now known (drop l.factor-index l.factors))
+      ≡ prepend (procs_of_parts (procs_known known) l.draft.parts.items) (weave l.fn.plan.names l.fn.plan.sentences.now known (drop l.factor-index l.factors));
 }

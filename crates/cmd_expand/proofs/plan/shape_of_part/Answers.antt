@@ -1,4 +1,4 @@
-use Rattle.std.proofs.Common.{◌≡◌, ◌<◌, ℕ, [], length, get_or, ap, ◌∙◌, sym, rules}
+use Rattle.std.proofs.Common.{◌≡◌, ◌<◌, length, ap, rules}
 use Rattle.cmd_expand.specs.Pairs.{renamed}
 use Rattle.cmd_expand.specs.Mirror.Plan.{own, procs_of_part}
 use Rattle.cmd_expand.proofs.Shapes.{shape_use}

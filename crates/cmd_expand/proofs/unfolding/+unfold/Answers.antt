@@ -1,4 +1,4 @@
-use Rattle.std.proofs.Common.{◌≡◌, ◌<◌, ℕ, ◌∙◌, ◌∷◌, [], get_or, sym, ap, arith, subst}
+use Rattle.std.proofs.Common.{◌<◌, ◌∙◌, ◌∷◌, [], get_or, sym, ap, arith, subst}
 use Rattle.cmd_expand.specs.declared.unfolding.Piece.{Piece}
 use Rattle.cmd_expand.specs.Mirror.Pieces.{numbered_by, procs_of_piece, IsPieceBelow}
 use Rattle.cmd_expand.proofs.Shapes.{stack_taken, last_below}

@@ -11,7 +11,7 @@ decreases-unfold l = l.of
 abbrev pub invariant-loop-piece : goal.invariant-loop-piece
 invariant-loop-piece l = record {
   below : AllByRecursion (IsPieceBelow l.of) l.pieces.items;
-  whole : (ms : List (List Proc)) → AreLines ms l.lines → l.procs ++ procs_of_stack ms l.pieces.items ≡ l.initial.procs ++ numbered_by (get_or ms l.of []) l.numbers
+  whole : (ms : List (List Proc)) → AreLines ms l.lines → l.procs ++ procs_of_stack ms l.pieces.items ≡ l.initial.procs ++ numbered_by (get_or ms l.of []) l.numbers;
 }
 
 abbrev pub decreases-loop-piece : goal.decreases-loop-piece

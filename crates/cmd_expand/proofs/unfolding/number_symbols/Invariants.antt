@@ -7,7 +7,7 @@ abbrev pub invariant-loop-left : goal.invariant-loop-left
 invariant-loop-left l = record {
   few : l.left ≤ length l.symbols;
   few_numbers : l.left ≤ length l.numbers;
-  numbers : (a : ℕ) → number_by l.table a ≡ assigned (drop l.left l.symbols) (drop l.left l.numbers) a
+  numbers : (a : ℕ) → number_by l.table a ≡ assigned (drop l.left l.symbols) (drop l.left l.numbers) a;
 }
 
 abbrev pub decreases-loop-left : goal.decreases-loop-left

@@ -1,4 +1,4 @@
-use Rattle.std.proofs.Common.{◌≡◌, ◌<◌, ◌-◌, ◌++◌, [], List, length, get_or, ◌∙◌, sym, ap, arith, subst}
+use Rattle.std.proofs.Common.{◌<◌, ◌-◌, ◌++◌, List, length, ◌∙◌, sym, ap, arith, subst}
 use Rattle.std.specs.List.{AllByRecursion}
 use Rattle.cmd_rename.specs.Renaming.{ren_all}
 use Rattle.cmd_rename.specs.Table.{number_by}
@@ -17,7 +17,7 @@ loop-left-preserved c =
     let part = c.index-part.result.now in
     let g = number_by c.number_symbols.new.table in
     let below : AllByRecursion (IsBelow c.args.of) c.index-lines-of.result.parts.items
-        = subst (λ (l : Line). AllByRecursion (IsBelow c.args.of) l.parts.items) (sym c.index-lines-of.is) (c.requires.lines c.args.of c.index-lines-of.result c.requires.inside).0 in
+    = subst (λ (l : Line). AllByRecursion (IsBelow c.args.of) l.parts.items) (sym c.index-lines-of.is) (c.requires.lines c.args.of c.index-lines-of.result c.requires.inside).0 in
     let fits : c.loop-left.left - 1 < length c.index-lines-of.result.parts.items = omega (arith, inv.few, c.loop-left-test.true) in
     record {
       few = omega (arith, inv.few);

@@ -13,7 +13,7 @@ invariant-loop-left l = record {
   symbols : l.tables.symbols ≡ l.initial.tables.symbols;
   below : AllByRecursion (IsPieceBelow l.of) l.pieces.items;
   pieces : (ms : List (List Proc)) → AreLines ms l.lines →
-      procs_of_stack ms l.pieces.items ≡ ren_all (number_by l.initial.tables.symbols) (procs_of_parts ms (drop l.left l.line.parts.items))
+      procs_of_stack ms l.pieces.items ≡ ren_all (number_by l.initial.tables.symbols) (procs_of_parts ms (drop l.left l.line.parts.items));
 }
 
 abbrev pub decreases-loop-left : goal.decreases-loop-left

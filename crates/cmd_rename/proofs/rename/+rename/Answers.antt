@@ -1,7 +1,7 @@
-use Rattle.std.proofs.Common.{◌≡◌, map, take, sym, ◌∙◌, ap, arith}
+use Rattle.std.proofs.Common.{map, sym, ◌∙◌, ap, arith}
 use Rattle.std.proofs.lemmas.List.{take_all}
 use Rattle.cmd_tree.specs.Tree.{TAlt}
-use Rattle.cmd_tree.specs.View.{seqs_of, seq_of, item_of}
+use Rattle.cmd_tree.specs.View.{seqs_of, item_of}
 use Rattle.cmd_rename.specs.Renaming.{ren_item, ren_seq}
 use Rattle.cmd_rename.specs.Table.{number_by}
 use Rattle.cmd_rename.proofs.Trees.{renamed_seq, renamed_seqs}

@@ -1,4 +1,4 @@
-use Rattle.std.proofs.Common.{◌≡◌, ◌<◌, ◌++◌, ◌∷◌, [], List, map, sym, ◌∙◌, ap, subst, arith}
+use Rattle.std.proofs.Common.{map, sym, ◌∙◌, ap, subst, arith}
 use Rattle.cmd_rename.specs.Table.{entry}
 use Rattle.cmd_rename.specs.Mirror.Rounds.{shown, AreOld}
 use Rattle.cmd_rename.proofs.Entries.{shown_pushed, shown_apart, old_pushed}

@@ -1,4 +1,4 @@
-use Rattle.std.proofs.Common.{◌+◌, ◌<◌, arith}
+use Rattle.std.proofs.Common.{◌+◌, arith}
 use Rattle.cmd_rename.proofs.Entries.{none_shown}
 use Rattle.cmd_rename.proofs.table.Table.clear.Goals as goal
 

@@ -1,4 +1,4 @@
-use Rattle.std.proofs.Common.{◌≡◌, ◌<◌, sym, ◌∙◌, ap, map, length}
+use Rattle.std.proofs.Common.{◌<◌, sym, ◌∙◌, ap, map, length}
 use Rattle.std.specs.Prelude.{◌≤◌}
 use Rattle.cmd_rename.specs.Table.{entry}
 use Rattle.cmd_rename.specs.Mirror.Rounds.{shown}

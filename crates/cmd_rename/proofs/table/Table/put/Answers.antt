@@ -1,4 +1,4 @@
-use Rattle.std.proofs.Common.{◌≡◌, ◌∙◌, ap, refl, arith}
+use Rattle.std.proofs.Common.{◌∙◌, ap, refl, arith}
 use Rattle.cmd_rename.specs.Table.{entry}
 use Rattle.cmd_rename.proofs.Entries.{set_here, set_other, shown_here, old_set}
 use Rattle.cmd_rename.proofs.table.Table.put.Goals as goal
@@ -17,5 +17,7 @@ pub invariant_of-self : goal.invariant_of-self
 invariant_of-self c = (c.self.invariant.0, c.in_err-grow.ensures.old c.self.inside.round c.self.invariant.1)
 
 pub invariant_of-self-2 : goal.invariant_of-self-2
-invariant_of-self-2 c = (c.self.invariant.0,
-    old_set c.self.inside.round c.grow.new.entries.items c.args.symbol (record { round = c.self.inside.round; number = c.args.number }) (omega arith) (c.in_ok-grow.ensures.old c.self.inside.round c.self.invariant.1))
+invariant_of-self-2 c = (
+  c.self.invariant.0,
+  old_set c.self.inside.round c.grow.new.entries.items c.args.symbol (record { round = c.self.inside.round; number = c.args.number }) (omega arith) (c.in_ok-grow.ensures.old c.self.inside.round c.self.invariant.1),
+)
