@@ -6,10 +6,10 @@ use std::test::Fail;
 
 /// What a call did.
 #[derive(Drop)]
-struct Ran {
-    outcome: Outcome,
-    out: MemSink,
-    say: MemSink,
+pub struct Ran {
+    pub outcome: Outcome,
+    pub out: MemSink,
+    pub say: MemSink,
 }
 
 fn split_words(alloc: Global, text: &str) -> Result<Vec<String>, Fail> {
@@ -21,7 +21,7 @@ fn split_words(alloc: Global, text: &str) -> Result<Vec<String>, Fail> {
 }
 
 // Calls with these words. The file F has this content, or there is none. Puts on out fail as told.
-fn call(
+pub fn call(
     alloc: Global,
     words: &str,
     content: Option<&str>,
@@ -34,7 +34,7 @@ fn call(
         files.push((name, Vec::from_slice(alloc, content.as_bytes())?))?;
     }
     let mut shelf = MemShelf::new(files, Vec::new(alloc));
-    let mut out = MemSink::new(alloc, 100_000, fails)?;
+    let mut out = MemSink::new(alloc, 200_000, fails)?;
     let mut say = MemSink::new(alloc, 1000, Vec::new(alloc))?;
     let outcome = run(alloc, &words, &mut shelf, &mut out, &mut say);
     Ok(Ran { outcome, out, say })
@@ -92,7 +92,14 @@ fn answers(rt: HostRuntime) -> Result<(), Fail> {
         ),
         (
             "compile wide F",
-            Some("main := pref*[a?;b!;a?;c!]."),
+            Some("main := pref*[a?;c!]||pref*[b?;c!]."),
+            "",
+            "refused form\n",
+            1,
+        ),
+        (
+            "compile wide F",
+            Some("main := pref*[a?;b!;c?;d!]."),
             "",
             "refused form\n",
             1,
@@ -292,7 +299,7 @@ fn refuses_texts(rt: HostRuntime) -> Result<(), Fail> {
 }
 
 // A text, a piece so many times, and an end.
-fn repeated(
+pub fn repeated(
     alloc: Global,
     start: &str,
     piece: &str,

@@ -1,5 +1,5 @@
 -- A command of one process: it is no grant, and its sums are those of the process.
-use Rattle.std.proofs.Common.{◌≡◌, ◌⊎◌, inl, inr, ℕ, zero, suc, ◌+◌, ◌<◌, Bool, true, false, true≢false, List, [], ◌∷◌, ◌++◌, length, map, Option, Some, None, refl, sym, ap, ◌∙◌, subst, arith, if◌then◌else◌}
+use Rattle.std.proofs.Common.{◌≡◌, inl, inr, ℕ, ◌+◌, ◌<◌, Bool, true, false, true≢false, List, [], ◌∷◌, ◌++◌, length, map, Option, Some, None, refl, sym, ap, subst, arith, if◌then◌else◌}
 use Rattle.std.specs.Prelude.{not, ◌&&◌}
 use Rattle.std.specs.List.{range_with_len}
 use Rattle.std.proofs.lemmas.Bool.{cases_Bool}
@@ -7,8 +7,8 @@ use Rattle.cmd_tree.specs.declared.tree.Proc.{Proc}
 use Rattle.cmd_tree.specs.Limits.{marks_of_proc}
 use Rattle.cmd_tree.specs.Meaning.{has_symbol}
 use Rattle.process_laws.specs.GrantForms.{Giving, granted_of}
-use Rattle.basic_kinds.specs.Sorts.{Sort, Forks, Joins, same_sort}
-use Rattle.basic_kinds.specs.Sums.{Counted, Wide, so_many, one_if_wide, wide_sum, total_of}
+use Rattle.basic_kinds.specs.Sorts.{Sort, Forks, Joins}
+use Rattle.basic_kinds.specs.Sums.{Counted, Wide, wide_sum, total_of}
 use Rattle.di_grammar.specs.Lists.{Each, Within}
 use Rattle.di_grammar.specs.Grants.{Gift, gifts_from, Grants, IsGrant}
 use Rattle.di_grammar.specs.Homes.{HasHome, IsElsewhere}
@@ -17,7 +17,7 @@ use Rattle.di_grammar.specs.Admitted.{Admitted}
 use Rattle.di_grammar.specs.Sums.{ring, is_ring, grants, standing, made, meeting, ring_or_none, rings, woven}
 use Rattle.di_grammar.proofs.SumGrants.{grants_are}
 use Rattle.place_graph.specs.Graph.{graph_of}
-use Rattle.place_graph.specs.Sums.{counted, processes, of_command, command_sum}
+use Rattle.place_graph.specs.Sums.{counted, processes, command_sum}
 use Rattle.plain_split.proofs.SharedSums.{total_append, so_none}
 
 -- ---- no grant

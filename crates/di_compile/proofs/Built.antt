@@ -1,5 +1,5 @@
 -- What is promised of a network that was put in order.
-use Rattle.std.proofs.Common.{◌≡◌, ◌⊎◌, inl, inr, ℕ, ◌+◌, ◌<◌, ◌^◌, Bool, true, false, List, [], ◌∷◌, length, map, Option, Some, None, refl, sym, ap, ◌∙◌, subst, arith, if◌then◌else◌}
+use Rattle.std.proofs.Common.{◌≡◌, ◌⊎◌, inl, inr, ℕ, ◌+◌, ◌<◌, ◌^◌, Bool, List, [], ◌∷◌, length, Option, Some, None, refl, sym, ap, ◌∙◌, subst, arith, if◌then◌else◌}
 use Rattle.std.specs.Prelude.{drop, not}
 use Rattle.std.specs.List.{sum_by, slice_get}
 use Rattle.std.proofs.lemmas.List.{length-map}
@@ -8,7 +8,7 @@ use Rattle.std.proofs.lemmas.List.FromFn.{length-map-range_with_len}
 use Rattle.cmd_tree.specs.declared.tree.Proc.{Proc}
 use Rattle.cmd_tree.specs.declared.command.Command.{Command}
 use Rattle.cmd_tree.specs.Limits.{marks_of_all}
-use Rattle.basic_kinds.specs.Sorts.{Sort, how_many}
+use Rattle.basic_kinds.specs.Sorts.{how_many}
 use Rattle.basic_kinds.specs.Sums.{wide_sum}
 use Rattle.di_grammar.specs.Grants.{IsGrant}
 use Rattle.di_grammar.specs.Admitted.{Admitted}
@@ -25,12 +25,12 @@ use Rattle.net_core.specs.declared.spec.NodeSpec.{NodeSpec}
 use Rattle.net_core.specs.declared.spec.NodeSpec.TheVariants.{Cmd}
 use Rattle.net_core.specs.Specs.{outs_of, gives_symbol}
 use Rattle.net_core.specs.Wiring.{Circuit, Node}
-use Rattle.net_core.specs.Networks.{directions, directions_at, spec_of}
+use Rattle.net_core.specs.Networks.{directions_at, spec_of}
 use Rattle.net_laws.specs.Implementing.{Implements}
 use Rattle.plain_split.specs.OneWaitSums.{is_component}
 use Rattle.plain_split.specs.PlainNet.{IsPlain, HasPlain, HasCounted}
 use Rattle.di_compile.specs.declared.build.Basis.TheVariants.{Wide}
-use Rattle.di_compile.specs.Compiling.{IsBuilt, IsInOrderOf, IsNetworkOf, number_of}
+use Rattle.di_compile.specs.Compiling.{IsBuilt, IsInOrderOf, IsNetworkOf}
 use Rattle.di_compile.proofs.Alone.{no_grant, one_sum}
 
 many_sum : (test : NodeSpec → Bool) (xs : List Node) → how_many (λ (x : Node). test x.spec) xs ≡ sum_by (λ (x : Node). if test x.spec then 1 else 0) xs

@@ -1,5 +1,5 @@
 -- Which commands are compiled, and what is promised of their networks.
-use Rattle.std.specs.Prelude.{◌≡◌, ℕ, ◌<◌, ◌^◌, List, [], ◌∷◌, drop, length, ⊤, Some}
+use Rattle.std.specs.Prelude.{◌≡◌, ℕ, ◌<◌, ◌^◌, List, [], ◌∷◌, drop, length, ⊤}
 use Rattle.cmd_tree.specs.declared.tree.Proc.{Proc}
 use Rattle.cmd_tree.specs.declared.command.Command.{Command}
 use Rattle.basic_kinds.specs.Sorts.{Sort, how_many}
@@ -11,7 +11,7 @@ use Rattle.place_graph.specs.Sums.{command_sum}
 use Rattle.plain_split.specs.PlainNet.{IsPlain}
 use Rattle.plain_split.specs.OneWaitSums.{is_component}
 use Rattle.net_core.specs.declared.spec.NodeSpec.TheVariants.{Cmd}
-use Rattle.net_core.specs.Wiring.{Circuit, Node, IsClosed}
+use Rattle.net_core.specs.Wiring.{Circuit, Node}
 use Rattle.net_core.specs.Networks.{IsBasic, Correct, IsThrough, directions, end_at}
 use Rattle.net_core.specs.Renumbering.{Preserves}
 use Rattle.net_core.specs.Walk.{IsInWalkOrder}

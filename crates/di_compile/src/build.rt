@@ -54,11 +54,7 @@ fn compile_wide(alloc: Global, command: &Command) -> Result<Net, CompileRefusal>
 }
 
 // Of a command of this process alone.
-fn compile_process(
-    alloc: Global,
-    command: &Command,
-    process: &Proc,
-) -> Result<Net, CompileRefusal>
+fn compile_process(alloc: Global, command: &Command, process: &Proc) -> Result<Net, CompileRefusal>
     requires admitted { Admitted command.now.procs }
     requires alone { command.now.procs ≡ process.now ∷ [] }
     ensures ok { IfOk result (λ net. IsBuilt Basis.Wide command.now.procs × IsNetworkOf command.now net) }

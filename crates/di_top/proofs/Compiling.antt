@@ -7,8 +7,10 @@ use Rattle.net_core.specs.Wiring.{Circuit}
 use Rattle.di_grammar.specs.Admitted.{Admitted}
 use Rattle.di_grammar.proofs.Answering.{broken_not_admitted}
 use Rattle.di_grammar.specs.declared.answer.Broken.{Broken}
-use Rattle.di_grammar.specs.Admitted.{IsBroken}
-use Rattle.di_compile.specs.Compiling.{IsNetworkOf}
+use Rattle.di_compile.specs.declared.build.Basis.TheVariants.{Wide}
+use Rattle.di_compile.specs.declared.refusal.CompileRefusal.{CompileRefusal}
+use Rattle.di_compile.specs.declared.refusal.CompileRefusal.TheVariants as breaks
+use Rattle.di_compile.specs.Compiling.{IsNetworkOf, IsRefused}
 use Rattle.di_top.specs.declared.outcome.Outcome.{Outcome}
 use Rattle.di_top.specs.declared.outcome.Outcome.TheVariants.{Done, Refused, NoMemory}
 use Rattle.di_top.specs.declared.outcome.Why.TheVariants.{NotThisForm}
@@ -37,9 +39,9 @@ not_built r file command h stop (inr (other, e)) =
     let P : Outcome → Type 0 = IsStop in (subst P (sym e) tt, inr (Taken command.names command.procs h (inr (other, e))))
 
 -- an admitted command breaks no rule
-pub no_rule : (procs : List Proc) (b : Broken) (stop : Outcome) → Admitted procs → IsBroken procs b
+pub no_rule : (procs : List Proc) (b : Broken) (r : CompileRefusal) (stop : Outcome) → Admitted procs → r ≡ breaks.Broken b → IsRefused Wide procs r
     → (stop ≡ NoMemory) ⊎ ((Compiles procs → ⊥) × (stop ≡ Refused NotThisForm))
-no_rule procs b stop admitted broken = absurd (broken_not_admitted procs b broken admitted)
+no_rule procs b r stop admitted e refused = absurd (broken_not_admitted procs b (subst (IsRefused Wide procs) e refused) admitted)
 
 pub check_done : (r : Reading) (file : List ℕ) (command : Command) → FileHolds r file command.names command.procs
     → Gives (Some (Check file)) r Done × Prints (Some (Check file)) r (counts_text (counts_of command.names command.procs))

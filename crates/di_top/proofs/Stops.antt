@@ -1,5 +1,5 @@
 -- What stops a command file, and what it gives, exclude one another; bytes that were loaded of an admitted text are all.
-use Rattle.std.proofs.Common.{◌≡◌, ℕ, ◌≤◌, List, Some, refl, sym, ap, ◌∙◌, subst, inl, inr, arith, take, length}
+use Rattle.std.proofs.Common.{◌≡◌, ℕ, ◌≤◌, List, Some, Result, Ok, Err, refl, sym, ap, ◌∙◌, subst, inl, inr, arith, take, length}
 use Rattle.std.specs.Prelude.{◌⊎◌}
 use Rattle.std.specs.Option.{IfSome}
 use Rattle.std.proofs.lemmas.List.{take_all, length-take}
@@ -17,12 +17,13 @@ use Rattle.di_grammar.proofs.Answering.{broken_not_admitted, broken_one}
 use Rattle.di_top.specs.declared.outcome.Outcome.{Outcome}
 use Rattle.di_top.specs.declared.outcome.Outcome.TheVariants.{Refused, NoMemory}
 use Rattle.di_top.specs.declared.outcome.Why.TheVariants as why
-use Rattle.di_top.specs.declared.source.SourceRefusal.{SourceRefusal}
-use Rattle.di_top.specs.declared.source.SourceRefusal.TheVariants as source
-use Rattle.di_top.specs.Sources as spec
-use Rattle.di_top.specs.Sources.{Sourced, Main, Source, IsFileOf, sourced, TellsFile}
+use Rattle.cmd_expand.specs.declared.refusal.ExpandRefusal.{ExpandRefusal}
+use Rattle.cmd_expand.specs.declared.refusal.ExpandRefusal.TheVariants as expand
+use Rattle.cmd_expand.specs.Expansion.{Meant, expansion, refused_of}
+use Rattle.cmd_expand.specs.Pairs as wrong
+use Rattle.di_top.specs.Sources.{Source, IsFileOf, main}
 use Rattle.di_top.specs.Calls.{Reading, Loaded}
-use Rattle.di_top.specs.CommandFiles.{command_cap, RefusedAs, told_of_text, told_of_source, StopsWith, TooLong, Faulty, Refuses, IsAdmittedText}
+use Rattle.di_top.specs.CommandFiles.{command_cap, outcome_of, RefusedAs, told_of_text, told_of_expand, StopsWith, TooLong, Faulty, Refuses, IsAdmittedText}
 use Rattle.di_top.specs.Plans.{IsStop}
 use Rattle.di_top.proofs.Sourcing.{one_source, no_source}
 
@@ -36,35 +37,45 @@ text_stops bytes (text.NameTooLong at) few h = inr (Faulty (text.NameTooLong at)
 text_stops bytes (text.TooDeep at) few h = inr (Faulty (text.TooDeep at) (faults.TooDeep at) few refl h refl)
 text_stops bytes text.NoMemory few h = inl refl
 
-source_is : (bytes : List ℕ) (names : List (List ℕ)) (ss : List Sentence) (is : Sourced) → IsFileOf bytes names ss → sourced names ss ≡ is → Source bytes is
+source_is : (bytes : List ℕ) (names : List (List ℕ)) (ss : List Sentence) (is : Result Meant wrong.Refused) → IsFileOf bytes names ss → expansion names ss ≡ is → Source bytes is
 source_is bytes names ss is f e = record { names = names; sentences = ss; read = f; same = e }
 
-pub source_stops : (bytes : List ℕ) (names : List (List ℕ)) (ss : List Sentence) (refusal : SourceRefusal) → IsFileOf bytes names ss → TellsFile (sourced names ss) refusal
-    → (told_of_source refusal ≡ NoMemory) ⊎ StopsWith bytes (told_of_source refusal)
-source_stops bytes names ss source.NotThisForm f h = inr (Refuses spec.NotThisForm (source_is bytes names ss spec.NotThisForm f h) refl)
-source_stops bytes names ss (source.TooManySymbols n) f h = inr (Refuses (spec.TooManySymbols n) (source_is bytes names ss (spec.TooManySymbols n) f h) refl)
-source_stops bytes names ss (source.TooManyProcs n) f h = inr (Refuses (spec.TooManyProcs n) (source_is bytes names ss (spec.TooManyProcs n) f h) refl)
-source_stops bytes names ss (source.TooManyPlaces n) f h = inr (Refuses (spec.TooManyPlaces n) (source_is bytes names ss (spec.TooManyPlaces n) f h) refl)
-source_stops bytes names ss source.NoMemory f h = inl refl
+-- what is wrong with the definitions stops a call
+wrong_stops : (bytes : List ℕ) (names : List (List ℕ)) (ss : List Sentence) (r : wrong.Refused) → IsFileOf bytes names ss → expansion names ss ≡ Err r
+    → StopsWith bytes (outcome_of r)
+wrong_stops bytes names ss r f h = Refuses (Err r) (source_is bytes names ss (Err r) f h) refl
+
+pub expand_stops : (bytes : List ℕ) (names : List (List ℕ)) (ss : List Sentence) (refusal : ExpandRefusal) → IsFileOf bytes names ss
+    → IfSome (refused_of refusal) (λ r. expansion names ss ≡ Err r) → (told_of_expand refusal ≡ NoMemory) ⊎ StopsWith bytes (told_of_expand refusal)
+expand_stops bytes names ss (expand.UnknownName at) f h = inr (wrong_stops bytes names ss (wrong.UnknownName at) f h)
+expand_stops bytes names ss (expand.DefinedTwice at) f h = inr (wrong_stops bytes names ss (wrong.DefinedTwice at) f h)
+expand_stops bytes names ss (expand.UsedBeforeDefined at) f h = inr (wrong_stops bytes names ss (wrong.UsedBeforeDefined at) f h)
+expand_stops bytes names ss (expand.RenamedTwice at) f h = inr (wrong_stops bytes names ss (wrong.RenamedTwice at) f h)
+expand_stops bytes names ss (expand.RenameUnknown at) f h = inr (wrong_stops bytes names ss (wrong.RenameUnknown at) f h)
+expand_stops bytes names ss (expand.RenameMerges at) f h = inr (wrong_stops bytes names ss (wrong.RenameMerges at) f h)
+expand_stops bytes names ss (expand.TooManySymbols n) f h = inr (wrong_stops bytes names ss (wrong.TooManySymbols n) f h)
+expand_stops bytes names ss (expand.TooManyProcs n) f h = inr (wrong_stops bytes names ss (wrong.TooManyProcs n) f h)
+expand_stops bytes names ss (expand.TooManyPlaces n) f h = inr (wrong_stops bytes names ss (wrong.TooManyPlaces n) f h)
+expand_stops bytes names ss expand.NoMemory f h = inl refl
 
 pub grammar_stops : (bytes : List ℕ) (names all : List (List ℕ)) (ss : List Sentence) (procs : List Proc) (b : Broken) → IsFileOf bytes all ss
-    → sourced all ss ≡ Main names procs → IsBroken procs b → StopsWith bytes (Refused (why.Grammar b))
-grammar_stops bytes names all ss procs b f e h = Refuses (Main names procs) (source_is bytes all ss (Main names procs) f e) (b, h, refl)
+    → expansion all ss ≡ main names procs → IsBroken procs b → StopsWith bytes (Refused (why.Grammar b))
+grammar_stops bytes names all ss procs b f e h = Refuses (main names procs) (source_is bytes all ss (main names procs) f e) (b, h, refl)
 
 -- ---- an admitted text stops no call
 pub not_stopped : (bytes : List ℕ) (names : List (List ℕ)) (procs : List Proc) (outcome : Outcome) → IsAdmittedText bytes names procs → StopsWith bytes outcome → ⊥
 not_stopped bytes names procs outcome a (TooLong long e) = omega (arith, a.source.read.few, long)
-not_stopped bytes names procs outcome a (Faulty refusal fault few told is e) = no_source bytes fault (Main names procs) is a.source
+not_stopped bytes names procs outcome a (Faulty refusal fault few told is e) = no_source bytes fault (main names procs) is a.source
 not_stopped bytes names procs outcome a (Refuses is s e) =
-    let same : is ≡ Main names procs = one_source bytes is (Main names procs) s a.source in
-    let broken = subst (λ (x : Sourced). RefusedAs x outcome) same e in
+    let same : is ≡ main names procs = one_source bytes is (main names procs) s a.source in
+    let broken = subst (λ (x : Result Meant wrong.Refused). RefusedAs x outcome) same e in
     broken_not_admitted procs broken.0 broken.1 a.admitted
 
 -- two admitted texts of the same bytes are of the same command
 pub one_text : (bytes : List ℕ) (names others : List (List ℕ)) (procs qrocs : List Proc) → IsAdmittedText bytes names procs → IsAdmittedText bytes others qrocs
     → procs ≡ qrocs
 one_text bytes names others procs qrocs a b =
-    let same : Main names procs ≡ Main others qrocs = one_source bytes (Main names procs) (Main others qrocs) a.source b.source in cc
+    let same : main names procs ≡ main others qrocs = one_source bytes (main names procs) (main others qrocs) a.source b.source in cc
 
 -- bytes that were loaded and are within the limit are the whole content
 pub loaded_whole : (r : Reading) (file bytes : List ℕ) → Loaded r file command_cap bytes → length bytes ≤ MAX_FILE_BYTES
@@ -80,20 +91,25 @@ stops_are_stops bytes outcome (TooLong long e) = let P : Outcome → Type 0 = Is
 stops_are_stops bytes outcome (Faulty refusal fault few told is e) = let P : Outcome → Type 0 = IsStop in subst P (sym e) tt
 stops_are_stops bytes outcome (Refuses is s e) = refuses_stop is outcome e
   where
-    refuses_stop : (is : Sourced) (outcome : Outcome) → RefusedAs is outcome → IsStop outcome
-    refuses_stop spec.NotThisForm outcome e = let P : Outcome → Type 0 = IsStop in subst P (sym e) tt
-    refuses_stop (spec.TooManySymbols n) outcome e = let P : Outcome → Type 0 = IsStop in subst P (sym e) tt
-    refuses_stop (spec.TooManyProcs n) outcome e = let P : Outcome → Type 0 = IsStop in subst P (sym e) tt
-    refuses_stop (spec.TooManyPlaces n) outcome e = let P : Outcome → Type 0 = IsStop in subst P (sym e) tt
-    refuses_stop (Main names procs) outcome e = let P : Outcome → Type 0 = IsStop in subst P (sym e.2) tt
+    wrong_stop : (r : wrong.Refused) → IsStop (outcome_of r)
+    wrong_stop (wrong.UnknownName at) = tt
+    wrong_stop (wrong.DefinedTwice at) = tt
+    wrong_stop (wrong.UsedBeforeDefined at) = tt
+    wrong_stop (wrong.RenamedTwice at) = tt
+    wrong_stop (wrong.RenameUnknown at) = tt
+    wrong_stop (wrong.RenameMerges at) = tt
+    wrong_stop (wrong.TooManySymbols n) = tt
+    wrong_stop (wrong.TooManyProcs n) = tt
+    wrong_stop (wrong.TooManyPlaces n) = tt
+
+    refuses_stop : (is : Result Meant wrong.Refused) (outcome : Outcome) → RefusedAs is outcome → IsStop outcome
+    refuses_stop (Err r) outcome e = let P : Outcome → Type 0 = IsStop in subst P (sym e) (wrong_stop r)
+    refuses_stop (Ok m) outcome e = let P : Outcome → Type 0 = IsStop in subst P (sym e.2) tt
 
 -- a file is refused with one outcome
-one_refusal : (is : Sourced) (a b : Outcome) → RefusedAs is a → RefusedAs is b → a ≡ b
-one_refusal spec.NotThisForm a b e h = e ∙ sym h
-one_refusal (spec.TooManySymbols n) a b e h = e ∙ sym h
-one_refusal (spec.TooManyProcs n) a b e h = e ∙ sym h
-one_refusal (spec.TooManyPlaces n) a b e h = e ∙ sym h
-one_refusal (Main names procs) a b e h = e.2 ∙ ap (λ x. Refused (why.Grammar x)) (broken_one procs e.0 h.0 e.1 h.1) ∙ sym h.2
+one_refusal : (is : Result Meant wrong.Refused) (a b : Outcome) → RefusedAs is a → RefusedAs is b → a ≡ b
+one_refusal (Err r) a b e h = e ∙ sym h
+one_refusal (Ok m) a b e h = e.2 ∙ ap (λ x. Refused (why.Grammar x)) (broken_one m.procs e.0 h.0 e.1 h.1) ∙ sym h.2
 
 -- ---- bytes stop a call with one outcome
 abbrev fault_refusal : faults.Fault → Refusal
@@ -125,4 +141,4 @@ one_stop bytes a b (Refuses is s e) (TooLong long h) = absurd (omega (arith, lon
 one_stop bytes a b (Refuses is s e) (Faulty refusal fault few told it h) = absurd (no_source bytes fault is it s)
 one_stop bytes a b (Refuses is s e) (Refuses it t h) =
     let same : is ≡ it = one_source bytes is it s t in
-    one_refusal it a b (subst (λ (x : Sourced). RefusedAs x a) same e) h
+    one_refusal it a b (subst (λ (x : Result Meant wrong.Refused). RefusedAs x a) same e) h

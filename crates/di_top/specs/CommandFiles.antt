@@ -1,6 +1,6 @@
 -- What a command file is to each form of words that takes the command of `main`: it stops the call, or gives an
 -- admitted command.
-use Rattle.std.specs.Prelude.{◌≡◌, ℕ, suc, ◌≤◌, ◌<◌, List, Some, length}
+use Rattle.std.specs.Prelude.{◌≡◌, ℕ, suc, ◌≤◌, ◌<◌, List, Some, length, Result, Ok, Err}
 use Rattle.cmd_tree.specs.declared.tree.Proc.{Proc}
 use Rattle.cmd_tree.specs.declared.limits.TheConstants.{MAX_FILE_BYTES}
 use Rattle.cmd_text.specs.declared.file.Refusal.{Refusal}
@@ -12,22 +12,33 @@ use Rattle.di_grammar.specs.Admitted.{Admitted, IsBroken}
 use Rattle.di_top.specs.declared.outcome.Outcome.{Outcome}
 use Rattle.di_top.specs.declared.outcome.Outcome.TheVariants.{Refused, ReadFault, NoMemory, Limit}
 use Rattle.di_top.specs.declared.outcome.Why.TheVariants as why
-use Rattle.di_top.specs.Sources.{Sourced, NotThisForm, TooManySymbols, TooManyProcs, TooManyPlaces, Main, Source}
-use Rattle.di_top.specs.declared.source.SourceRefusal.{SourceRefusal}
-use Rattle.di_top.specs.declared.source.SourceRefusal.TheVariants as source
+use Rattle.cmd_expand.specs.declared.refusal.ExpandRefusal.{ExpandRefusal}
+use Rattle.cmd_expand.specs.declared.refusal.ExpandRefusal.TheVariants as expand
+use Rattle.cmd_expand.specs.Expansion.{Meant}
+use Rattle.cmd_expand.specs.Pairs as wrong
+use Rattle.di_top.specs.Sources.{Source, main}
 use Rattle.di_top.specs.Calls.{Reading, Loaded, Unread}
 
 -- a command file is loaded with one byte more, so that a longer one is seen to be longer
 abbrev pub command_cap : ℕ
 command_cap = suc MAX_FILE_BYTES
 
--- what is answered of a file that is this, where it gives no admitted command
-abbrev pub RefusedAs : Sourced → Outcome → Type 0
-RefusedAs NotThisForm outcome = outcome ≡ Refused why.NotThisForm
-RefusedAs (TooManySymbols n) outcome = outcome ≡ Limit 3 n
-RefusedAs (TooManyProcs n) outcome = outcome ≡ Limit 4 n
-RefusedAs (TooManyPlaces n) outcome = outcome ≡ Limit 5 n
-RefusedAs (Main names procs) outcome = (b : Broken) × IsBroken procs b × (outcome ≡ Refused (why.Grammar b))
+-- the outcome where this is wrong with the definitions of a file
+abbrev pub outcome_of : wrong.Refused → Outcome
+outcome_of (wrong.UnknownName at) = Refused (why.Expand (expand.UnknownName at))
+outcome_of (wrong.DefinedTwice at) = Refused (why.Expand (expand.DefinedTwice at))
+outcome_of (wrong.UsedBeforeDefined at) = Refused (why.Expand (expand.UsedBeforeDefined at))
+outcome_of (wrong.RenamedTwice at) = Refused (why.Expand (expand.RenamedTwice at))
+outcome_of (wrong.RenameUnknown at) = Refused (why.Expand (expand.RenameUnknown at))
+outcome_of (wrong.RenameMerges at) = Refused (why.Expand (expand.RenameMerges at))
+outcome_of (wrong.TooManySymbols n) = Limit 3 n
+outcome_of (wrong.TooManyProcs n) = Limit 4 n
+outcome_of (wrong.TooManyPlaces n) = Limit 5 n
+
+-- what is answered of a file that means this, where it gives no admitted command
+abbrev pub RefusedAs : Result Meant wrong.Refused → Outcome → Type 0
+RefusedAs (Err r) outcome = outcome ≡ outcome_of r
+RefusedAs (Ok m) outcome = (b : Broken) × IsBroken m.procs b × (outcome ≡ Refused (why.Grammar b))
 
 -- the outcome of each refusal
 abbrev pub told_of_text : Refusal → Outcome
@@ -38,23 +49,28 @@ told_of_text (text.NameTooLong at) = Refused (why.Text (text.NameTooLong at))
 told_of_text (text.TooDeep at) = Refused (why.Text (text.TooDeep at))
 told_of_text text.NoMemory = NoMemory
 
-abbrev pub told_of_source : SourceRefusal → Outcome
-told_of_source source.NotThisForm = Refused why.NotThisForm
-told_of_source (source.TooManySymbols n) = Limit 3 n
-told_of_source (source.TooManyProcs n) = Limit 4 n
-told_of_source (source.TooManyPlaces n) = Limit 5 n
-told_of_source source.NoMemory = NoMemory
+abbrev pub told_of_expand : ExpandRefusal → Outcome
+told_of_expand (expand.UnknownName at) = Refused (why.Expand (expand.UnknownName at))
+told_of_expand (expand.DefinedTwice at) = Refused (why.Expand (expand.DefinedTwice at))
+told_of_expand (expand.UsedBeforeDefined at) = Refused (why.Expand (expand.UsedBeforeDefined at))
+told_of_expand (expand.RenamedTwice at) = Refused (why.Expand (expand.RenamedTwice at))
+told_of_expand (expand.RenameUnknown at) = Refused (why.Expand (expand.RenameUnknown at))
+told_of_expand (expand.RenameMerges at) = Refused (why.Expand (expand.RenameMerges at))
+told_of_expand (expand.TooManySymbols n) = Limit 3 n
+told_of_expand (expand.TooManyProcs n) = Limit 4 n
+told_of_expand (expand.TooManyPlaces n) = Limit 5 n
+told_of_expand expand.NoMemory = NoMemory
 
--- What these bytes stop a call with: they are too many, they have a fault, or their file is refused.
+-- What these bytes stop a call with: they are too many, they have a fault, or what they mean is refused.
 pub data StopsWith (bytes : List ℕ) (outcome : Outcome) : Type 0 where
   TooLong : MAX_FILE_BYTES < length bytes → outcome ≡ Limit 1 (length bytes) → StopsWith bytes outcome
   Faulty : (refusal : Refusal) (fault : faults.Fault) → length bytes ≤ MAX_FILE_BYTES → fault_of refusal ≡ Some fault → IsFaultOfBytes bytes fault
       → outcome ≡ Refused (why.Text refusal) → StopsWith bytes outcome
-  Refuses : (is : Sourced) → Source bytes is → RefusedAs is outcome → StopsWith bytes outcome
+  Refuses : (is : Result Meant wrong.Refused) → Source bytes is → RefusedAs is outcome → StopsWith bytes outcome
 
 -- the bytes are, within the limits, a text of this one command, and it is admitted
 pub record IsAdmittedText (bytes : List ℕ) (names : List (List ℕ)) (procs : List Proc) : Type 0 where
-  pub source : Source bytes (Main names procs)
+  pub source : Source bytes (main names procs)
   pub admitted : Admitted procs
 
 -- the file stops a call: it was not read, or its bytes stop it

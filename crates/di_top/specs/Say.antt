@@ -13,12 +13,14 @@ use Rattle.cmd_tree.specs.declared.limits.TheConstants.{
 }
 use Rattle.cmd_text.specs.declared.file.Refusal.{Refusal}
 use Rattle.cmd_text.specs.declared.file.Refusal.TheVariants as text
+use Rattle.cmd_expand.specs.declared.refusal.ExpandRefusal.{ExpandRefusal}
+use Rattle.cmd_expand.specs.declared.refusal.ExpandRefusal.TheVariants as expand
 use Rattle.di_grammar.specs.declared.answer.Broken.{Broken}
 use Rattle.text_lines.specs.Lines.{worded, numbered_line}
 use Rattle.di_top.specs.declared.outcome.Outcome.{Outcome}
 use Rattle.di_top.specs.declared.outcome.Outcome.TheVariants.{Done, Refused, Usage, ReadFault, WriteFault, NoMemory, Limit}
 use Rattle.di_top.specs.declared.outcome.Why.{Why}
-use Rattle.di_top.specs.declared.outcome.Why.TheVariants.{Text, NotThisForm, Grammar}
+use Rattle.di_top.specs.declared.outcome.Why.TheVariants.{Text, Expand, NotThisForm, Grammar}
 
 abbrev pub usage_line : List ℕ
 usage_line = codes "usage: dic compile wide|two F, check F, count wide|two F, run N S [count|peak], drive N SEED STEPS, rules F, big N\n"
@@ -32,6 +34,19 @@ text_line (text.NameTooLong at) = numbered_line (codes "refused name at ") at
 text_line (text.TooDeep at) = numbered_line (codes "refused depth at ") at
 text_line text.NoMemory = codes "no memory\n"
 
+-- what is past a limit has a line of its own
+abbrev pub expand_line : ExpandRefusal → List ℕ
+expand_line (expand.UnknownName at) = numbered_line (codes "refused unknown name at ") at
+expand_line (expand.DefinedTwice at) = numbered_line (codes "refused second definition at ") at
+expand_line (expand.UsedBeforeDefined at) = numbered_line (codes "refused early use at ") at
+expand_line (expand.RenamedTwice at) = numbered_line (codes "refused second renaming at ") at
+expand_line (expand.RenameUnknown at) = numbered_line (codes "refused renaming of no symbol at ") at
+expand_line (expand.RenameMerges at) = numbered_line (codes "refused merging at ") at
+expand_line (expand.TooManySymbols n) = []
+expand_line (expand.TooManyProcs n) = []
+expand_line (expand.TooManyPlaces n) = []
+expand_line expand.NoMemory = []
+
 abbrev pub grammar_line : Broken → List ℕ
 grammar_line b =
     worded (codes "refused G") b.rule ++ worded (codes " process ") b.process ++ worded (codes " place ") b.place
@@ -39,6 +54,7 @@ grammar_line b =
 
 abbrev pub why_line : Why → List ℕ
 why_line (Text refusal) = text_line refusal
+why_line (Expand refusal) = expand_line refusal
 why_line NotThisForm = codes "refused form\n"
 why_line (Grammar b) = grammar_line b
 

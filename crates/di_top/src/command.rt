@@ -5,7 +5,7 @@ ghost use Rattle.di_top.specs.Plans.{IsStop};
 
 use crate::load::load_file;
 use crate::outcome::{Outcome, Why};
-use crate::source::source;
+use cmd_expand::expand;
 use cmd_text::read_file;
 use cmd_tree::{Command, MAX_FILE_BYTES};
 use di_grammar::check;
@@ -26,7 +26,7 @@ pub fn load_command<F: Shelf>(alloc: Global, file: &str, shelf: &mut F) -> Resul
 }
 
 /// Reads the command of `main`, which is admitted. What stops it first is answered: too many bytes, a fault
-/// of the text, a definition, a limit of commands, or a broken rule.
+/// of the text, what is wrong with a definition or its use, a limit of commands, or a broken rule.
 pub fn read_command(alloc: Global, bytes: &[u8]) -> Result<Command, Outcome>
     ensures ok { IfOk result (λ command. IsAdmittedText bytes.now command.names command.procs) }
     ensures stop { IfErr result (λ stop. (stop ≡ Outcome.NoMemory) ⊎ StopsWith bytes.now stop) }
@@ -38,7 +38,7 @@ pub fn read_command(alloc: Global, bytes: &[u8]) -> Result<Command, Outcome>
         });
     }
     let file = read_file(alloc, bytes)?;
-    let command = source(alloc, file)?;
+    let command = expand(alloc, &file)?;
     match check(&command) {
         None => Ok(command),
         Some(broken) => Err(Outcome::Refused(Why::Grammar(broken))),

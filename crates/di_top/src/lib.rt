@@ -9,7 +9,6 @@ mod load;
 mod outcome;
 mod plan;
 mod say;
-mod source;
 mod top;
 mod words;
 

@@ -1,7 +1,7 @@
 ghost use Rattle.std.specs.Prelude.{◌≡◌};
 ghost use Rattle.di_top.specs.Say.{status_of};
 
-use crate::source::SourceRefusal;
+use cmd_expand::ExpandRefusal;
 use cmd_text::Refusal;
 use di_grammar::Broken;
 use std::alloc::AllocError;
@@ -30,7 +30,9 @@ pub enum Outcome {
 pub enum Why {
     /// The file is no text of the grammar.
     Text(Refusal),
-    /// The file has definitions, or its command is not of the form that can be compiled.
+    /// Something is wrong with its definitions or their uses.
+    Expand(ExpandRefusal),
+    /// Its command is admitted, and none of those that are compiled today.
     NotThisForm,
     /// The command is not admitted.
     Grammar(Broken),
@@ -77,28 +79,28 @@ impl From<Refusal> for Outcome {
     }
 }
 
-impl From<SourceRefusal> for Outcome {
+impl From<ExpandRefusal> for Outcome {
     ghost use Rattle.std.specs.Prelude.{◌≡◌};
-    ghost use Rattle.di_top.specs.CommandFiles.{told_of_source};
+    ghost use Rattle.di_top.specs.CommandFiles.{told_of_expand};
 
-    ghost from_gives = { λ refusal outcome. outcome ≡ told_of_source refusal };
+    ghost from_gives = { λ refusal outcome. outcome ≡ told_of_expand refusal };
 
-    fn from(refusal: SourceRefusal) -> Outcome {
+    fn from(refusal: ExpandRefusal) -> Outcome {
         match refusal {
-            SourceRefusal::NotThisForm => Outcome::Refused(Why::NotThisForm),
-            SourceRefusal::TooManySymbols { count } => Outcome::Limit {
+            ExpandRefusal::TooManySymbols { count } => Outcome::Limit {
                 limit: 3,
                 value: count,
             },
-            SourceRefusal::TooManyProcs { count } => Outcome::Limit {
+            ExpandRefusal::TooManyProcs { count } => Outcome::Limit {
                 limit: 4,
                 value: count,
             },
-            SourceRefusal::TooManyPlaces { count } => Outcome::Limit {
+            ExpandRefusal::TooManyPlaces { count } => Outcome::Limit {
                 limit: 5,
                 value: count,
             },
-            SourceRefusal::NoMemory => Outcome::NoMemory,
+            ExpandRefusal::NoMemory => Outcome::NoMemory,
+            _ => Outcome::Refused(Why::Expand(refusal)),
         }
     }
 }

@@ -5,9 +5,10 @@ ghost use Rattle.std.specs.Prelude.{◌≡◌, ◌≤◌, OnOk, OnErr};
 ghost use Rattle.di_io.specs.Faults.{Rose};
 ghost use Rattle.di_io.specs.Written.{Gains, GainsFront};
 ghost use Rattle.di_io.specs.Printing.{prints};
-ghost use Rattle.di_top.specs.Say.{say_line, why_line, text_line, grammar_line, limit_line, allowed};
+ghost use Rattle.di_top.specs.Say.{say_line, why_line, text_line, expand_line, grammar_line, limit_line, allowed};
 
 use crate::outcome::{Outcome, Why};
+use cmd_expand::ExpandRefusal;
 use cmd_text::Refusal;
 use cmd_tree::{
     MAX_BIG, MAX_COMPONENTS, MAX_DRIVEN_STEPS, MAX_FILE_BYTES, MAX_NETLIST_BYTES,
@@ -52,6 +53,7 @@ fn print_why<S: Sink>(why: Why, printer: &mut Printer<'_, S>)
 {
     match why {
         Why::Text(refusal) => print_refusal(refusal, printer),
+        Why::Expand(refusal) => print_expand(refusal, printer),
         Why::NotThisForm => printer.print(b"refused form\n"),
         Why::Grammar(broken) => print_broken(broken, printer),
     }
@@ -68,6 +70,22 @@ fn print_refusal<S: Sink>(refusal: Refusal, printer: &mut Printer<'_, S>)
         Refusal::TooDeep { at } => print_numbered(b"refused depth at ", at as u64, printer),
         Refusal::NoMemory => printer.print(b"no memory\n"),
     }
+}
+
+// What is past a limit has a line of its own, and comes here no more than want of memory.
+fn print_expand<S: Sink>(refusal: ExpandRefusal, printer: &mut Printer<'_, S>)
+    ensures { printer.new ≡ prints printer.old (expand_line refusal) }
+{
+    let (text, at): (&[u8], u32) = match refusal {
+        ExpandRefusal::UnknownName { at } => (b"refused unknown name at ", at),
+        ExpandRefusal::DefinedTwice { at } => (b"refused second definition at ", at),
+        ExpandRefusal::UsedBeforeDefined { at } => (b"refused early use at ", at),
+        ExpandRefusal::RenamedTwice { at } => (b"refused second renaming at ", at),
+        ExpandRefusal::RenameUnknown { at } => (b"refused renaming of no symbol at ", at),
+        ExpandRefusal::RenameMerges { at } => (b"refused merging at ", at),
+        _ => return,
+    };
+    print_numbered(text, at as u64, printer);
 }
 
 fn print_broken<S: Sink>(broken: Broken, printer: &mut Printer<'_, S>)

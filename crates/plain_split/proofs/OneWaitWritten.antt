@@ -1,22 +1,18 @@
 -- What the network of one wait has of each sort is what is counted of the graph.
-use Rattle.std.proofs.Common.{ne_eqb, ◌≡◌, ℕ, ◌+◌, Bool, true, false, true≢false, nat_eq, cond, filter, List, [], ◌∷◌, ◌++◌, length, map, get_or, refl, sym, ap, ◌∙◌, subst, arith, inl, inr, if◌then◌else◌, IsTrue, is_some as has_some}
+use Rattle.std.proofs.Common.{ne_eqb, ◌≡◌, ℕ, ◌+◌, Bool, true, false, nat_eq, cond, filter, List, [], ◌∷◌, ◌++◌, length, refl, sym, ap, ◌∙◌, subst, arith, inl}
 use Rattle.std.specs.Prelude.{not, ◌&&◌, ◌||◌}
-use Rattle.std.specs.List.{range_with_len, list_any}
+use Rattle.std.specs.List.{range_with_len}
 use Rattle.cmd_tree.specs.declared.tree.Sym.{Sym}
-use Rattle.cmd_tree.specs.declared.tree.Proc.{Proc}
-use Rattle.cmd_tree.specs.declared.command.Command.{Command}
 use Rattle.cmd_tree.specs.Lists.{is_in}
-use Rattle.cmd_tree.specs.Meaning.{symbols}
-use Rattle.basic_kinds.specs.Sorts.{Sort, Wires, Iwires, Sources, Sinks, Forks, Joins, Merges, Toggles, Waits, Sequencers, how_many, how_many_below}
-use Rattle.basic_kinds.specs.Sums.{Counted, so_many, wide_sum, total_of}
+use Rattle.basic_kinds.specs.Sorts.{Sort, Wires, Iwires, Sources, Sinks, Forks, Joins, Merges, Toggles, Waits, Sequencers, how_many_below}
+use Rattle.basic_kinds.specs.Sums.{so_many, wide_sum, total_of}
 use Rattle.place_graph.specs.declared.wait_graph.WaitGraph.{WaitGraph}
 use Rattle.place_graph.specs.declared.wait_graph.Start.{Start}
 use Rattle.place_graph.specs.declared.wait_graph.Start.TheVariants as start
 use Rattle.place_graph.specs.declared.leg.Leg.{Leg}
 use Rattle.place_graph.specs.declared.styles.SplitStyle.{SplitStyle}
 use Rattle.place_graph.specs.declared.styles.SplitStyle.TheVariants.{OneWait}
-use Rattle.place_graph.specs.Points.{legs}
-use Rattle.place_graph.specs.Graph.{has_sym, graph_of, burst_number, act_points, index_of}
+use Rattle.place_graph.specs.Graph.{has_sym}
 use Rattle.place_graph.specs.GraphTraces.{numbers_of}
 use Rattle.place_graph.specs.Style.{style_of}
 use Rattle.place_graph.specs.Sums as sums

@@ -1,7 +1,6 @@
 -- An admitted command of one process that needs no token has one wait or is in rounds.
 use Rattle.std.specs.Prelude.{IfOk}
 use Rattle.std.proofs.Common.{Result, Ok, Err, ◌≡◌, ◌<◌, ◌^◌, ℕ, Bool, true, false, nat_eq, List, [], ◌∷◌, drop, length, true≢false, eq-eqb, ne_eqb, refl, sym, ap, subst, ◌∙◌, if◌then◌else◌}
-
 use Rattle.cmd_tree.specs.declared.tree.Proc.{Proc}
 use Rattle.cmd_tree.specs.declared.command.Command.{Command}
 use Rattle.di_grammar.specs.Admitted.{Admitted}

@@ -1,16 +1,15 @@
 -- What the network of rounds has of each sort is what is counted of the graph.
-use Rattle.std.proofs.Common.{eq-eqb, ne_eqb, eqb-true, ◌≡◌, ℕ, zero, suc, ◌+◌, ◌-◌, ◌<◌, ◌≤◌, Bool, true, false, true≢false, nat_eq, cond, filter, List, [], ◌∷◌, ◌++◌, length, map, get_or, refl, sym, ap, ◌∙◌, subst, arith, inl, inr, ◌⊎◌, if◌then◌else◌}
-use Rattle.std.specs.Prelude.{not, ◌&&◌, ◌||◌, count_by}
+use Rattle.std.proofs.Common.{eq-eqb, ne_eqb, eqb-true, ◌≡◌, ℕ, zero, suc, ◌+◌, ◌-◌, ◌<◌, ◌≤◌, Bool, true, false, true≢false, nat_eq, cond, filter, List, [], ◌∷◌, ◌++◌, length, map, get_or, refl, sym, ap, ◌∙◌, subst, arith, inl, inr, if◌then◌else◌}
+use Rattle.std.specs.Prelude.{not, ◌&&◌, ◌||◌}
 use Rattle.std.specs.List.{range_with_len, list_any, list_all, position_or_len}
-use Rattle.std.proofs.lemmas.Bool.{cases_Bool, cases_eq}
+use Rattle.std.proofs.lemmas.Bool.{cases_eq}
 use Rattle.std.proofs.lemmas.List.{length-map}
 use Rattle.std.proofs.lemmas.List.Sums.{length-filter}
 use Rattle.cmd_tree.specs.declared.tree.Sym.{Sym}
 use Rattle.cmd_tree.specs.Lists.{is_in}
 use Rattle.basic_kinds.specs.Sorts.{Sort, Wires, Iwires, Sources, Sinks, Forks, Joins, Merges, Toggles, Waits, Sequencers, how_many, how_many_below}
-use Rattle.basic_kinds.specs.Sums.{Counted, One, so_many, wide_sum, total_of}
+use Rattle.basic_kinds.specs.Sums.{One, so_many, wide_sum, total_of}
 use Rattle.net_core.specs.declared.spec.NodeSpec.{NodeSpec}
-use Rattle.net_core.specs.Specs.{outs_of}
 use Rattle.place_graph.specs.declared.wait_graph.WaitGraph.{WaitGraph}
 use Rattle.place_graph.specs.declared.wait_graph.Act.{Act}
 use Rattle.place_graph.specs.declared.wait_graph.Cross.{Cross}
@@ -22,10 +21,9 @@ use Rattle.place_graph.specs.declared.leg.Leg.{Leg}
 use Rattle.place_graph.specs.Graph.{has_sym, numbered, act_points, wait_points, acts_of, points_of, act, index_of}
 use Rattle.place_graph.proofs.BurstSets.{few_with_new}
 use Rattle.place_graph.specs.GraphTraces.{numbers_of}
-use Rattle.place_graph.specs.Style.{entries, has_entry, one_entry_each, style_of}
+use Rattle.place_graph.specs.Style.{entries, one_entry_each, style_of}
 use Rattle.place_graph.specs.Sums as sums
 use Rattle.place_graph.specs.Sums.{counted, of_style, symbols_at, outs_at, entries_of, begins_at}
-use Rattle.net_laws.proofs.Among.{Among}
 use Rattle.plain_split.specs.OneWait.{many, is_some}
 use Rattle.plain_split.specs.RoundsNet.{pow}
 use Rattle.plain_split.specs.RoundsChart.{Parts, is_single, givers, count, is_out}
@@ -52,11 +50,11 @@ from_one : (b k m : ℕ) → b ≤ m → m < b + k → how_many (λ n. nat_eq n 
 from_one b zero m low high = absurd (omega arith)
 from_one b (suc k) m low high = elim (cases_eq b m) [
   | inl e ↦ omega (
-      arith,
-      ap (λ c. bit c) (eq-eqb b m e),
-      from_same (b + 1) k (λ n. nat_eq n m) (λ n. false) (λ i low high. ne_eqb i m (λ z. omega arith)),
-      many_none (λ (n : ℕ). false) (range_with_len (b + 1) k) (λ n. refl),
-    )
+    arith,
+    ap (λ c. bit c) (eq-eqb b m e),
+    from_same (b + 1) k (λ n. nat_eq n m) (λ n. false) (λ i low high. ne_eqb i m (λ z. omega arith)),
+    many_none (λ (n : ℕ). false) (range_with_len (b + 1) k) (λ n. refl),
+  )
   | inr other ↦ omega (arith, ap (λ c. bit c) (ne_eqb b m other), from_one (b + 1) k m (omega arith) (omega arith))
 ]
 

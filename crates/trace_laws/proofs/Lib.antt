@@ -5,3 +5,9 @@ pub mod Shown
 pub mod Rules
 pub mod Following
 pub mod Siblings
+pub mod Cuts
+pub mod Naming
+pub mod Listings
+pub mod WholeListing
+pub mod Turns
+pub mod Verdicts

@@ -1,9 +1,12 @@
 -- Offers of traces one after the other.
-use Rattle.std.proofs.Common.{◌≡◌, ◌⊎◌, ◌↔◌, inl, inr, ℕ, ◌+◌, ◌<◌, ◌≤◌, length, get_or, arith, List, [], refl, ap, ◌∙◌, subst, Option, Some, None}
-use Rattle.std.specs.Ordering.{nat_cmp, ordering_reverse}
+use Rattle.std.proofs.Common.{◌≡◌, ◌⊎◌, ◌↔◌, inl, inr, ℕ, ◌+◌, ◌<◌, ◌≤◌, length, get_or, arith, List, [], refl, sym, ap, ◌∙◌, subst, Option, Some, None}
+use Rattle.std.specs.Ordering.{nat_cmp, ordering_reverse, is_eq}
 use Rattle.std.specs.Cmp.Lexicographic.{slice_cmp, nat_list_cmp_total}
 use Rattle.std.specs.declared.cmp.Ordering.{Ordering}
 use Rattle.std.specs.declared.cmp.Ordering.TheVariants.{Less, Equal, Greater}
+use Rattle.std.proofs.lemmas.Bool.{cases_order}
+use Rattle.std.proofs.lemmas.Map.Text.{is_eq-slice_cmp}
+use Rattle.std.proofs.lemmas.Slice.Eq.{bytes_eq-Decides}
 use Rattle.trace_laws.specs.Breaks.{Precedes}
 use Rattle.std.proofs.lemmas.List.{get_or_read}
 use Rattle.trace_laws.specs.Mirror.Faults.{OfEach}
@@ -23,6 +26,21 @@ chain s t u (inl h) (inl g) = inl (omega arith)
 chain s t u (inl h) (inr (e, l)) = inl (omega arith)
 chain s t u (inr (e, l)) (inl g) = inl (omega arith)
 chain s t u (inr (e, l)) (inr (f, m)) = inr (e ∙ f, nat_list_cmp_total.trans s t u l m)
+
+-- of two different traces one comes first
+by_order : (r q : Ordering) (t u : List ℕ) → r ≡ slice_cmp nat_cmp t u → r ≡ ordering_reverse q → (r ≡ Less → ⊥) → (q ≡ Less → ⊥) → t ≡ u
+by_order Less q t u e f n m = absurd (n refl)
+by_order Greater Less t u e f n m = absurd (m refl)
+by_order Greater Equal t u e f n m = cc
+by_order Greater Greater t u e f n m = cc
+by_order Equal q t u e f n m = (bytes_eq-Decides t u).0 (sym (is_eq-slice_cmp t u) ∙ ap is_eq (sym e))
+
+pub same_traces : (t u : List ℕ) → (Precedes t u → ⊥) → (Precedes u t → ⊥) → t ≡ u
+same_traces t u n m = elim (cases_order (length t) (length u)) [
+  | inl e ↦ by_order (slice_cmp nat_cmp t u) (slice_cmp nat_cmp u t) t u refl (nat_list_cmp_total.antisymm t u) (λ l. n (inr (e, l))) (λ l. m (inr (sym e, l)))
+  | inr (inl l) ↦ absurd (n (inl l))
+  | inr (inr l) ↦ absurd (m (inl l))
+]
 
 pub none_offered : (F : List ℕ → Type 0) (o : Option (List ℕ)) → ((t : List ℕ) → F t → ⊥) → Improved F o o
 none_offered F o f = record { from = inl refl; covers = λ u h. absurd (f u h); keeps = λ u h. h }

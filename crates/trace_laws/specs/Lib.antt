@@ -1,3 +1,4 @@
 pub mod Listed
 pub mod Breaks
 pub mod Mirror
+pub mod ListText

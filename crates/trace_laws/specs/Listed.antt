@@ -25,6 +25,10 @@ gives (Some dir) = is_output dir
 abbrev pub output_by : List Dir → ℕ → Bool
 output_by dirs a = gives (slice_get dirs a)
 
+-- traces as lists of numbers
+abbrev pub rows : {Z : Type 0} → List (Vec Sym Z) → List (List ℕ)
+rows traces = map (λ v. numbers v.items) traces
+
 -- the set that a list of traces is
 abbrev pub Listed : {Z : Type 0} → List (Vec Sym Z) → List ℕ → Type 0
-Listed traces t = Contains (map (λ v. numbers v.items) traces) t
+Listed traces t = Contains (rows traces) t

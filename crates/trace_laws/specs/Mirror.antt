@@ -1,3 +1,4 @@
 pub mod Improved
 pub mod Faults
 pub mod Followers
+pub mod Reading

@@ -1,4 +1,3 @@
-use Rattle.std.proofs.Common.{◌≡◌}
 use Rattle.place_graph.specs.Graph.{graph_of}
 use Rattle.plain_split.specs.PlainNet.{HasPlain}
 use Rattle.di_compile.proofs.Built.{plain_style, has_plain, is_drawable, is_built, network_of}
@@ -20,7 +19,7 @@ returns c =
       ok = (
         is_built c.args.command.now c.args.process.now c.requires.admitted c.requires.alone plain,
         network_of c.args.command.now c.args.process.now c.requires.admitted c.requires.alone c.in_ok-net-in-OneWait.net c.in_ok-in_order-in-OneWait.field-0
-        c.in_ok-net-in-OneWait.ensures.right c.in_ok-net-in-OneWait.ensures.few (c.in_ok-net-in-OneWait.ensures.kinds c.args.process.now has) c.in_ok-in_order-in-OneWait.ensures,
+            c.in_ok-net-in-OneWait.ensures.right c.in_ok-net-in-OneWait.ensures.few (c.in_ok-net-in-OneWait.ensures.kinds c.args.process.now has) c.in_ok-in_order-in-OneWait.ensures,
       );
       refused = tt;
     }

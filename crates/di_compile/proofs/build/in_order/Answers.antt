@@ -1,7 +1,6 @@
 use Rattle.std.proofs.Common.{ap}
 use Rattle.net_core.specs.Wiring.{Circuit}
 use Rattle.net_core.specs.Walk.{walk}
-use Rattle.di_compile.specs.Compiling.{IsInOrderOf}
 use Rattle.di_compile.proofs.build.in_order.Goals as goal
 
 pub returns-in-Ok : goal.returns-in-Ok

@@ -4,10 +4,10 @@ use Rattle.cmd_tree.specs.declared.limits.TheConstants.{MAX_FILE_BYTES}
 use Rattle.di_grammar.specs.Admitted.{Answer}
 use Rattle.di_top.specs.declared.outcome.Outcome.{Outcome}
 use Rattle.di_top.specs.declared.outcome.Outcome.TheVariants.{NoMemory}
-use Rattle.di_top.specs.CommandFiles.{StopsWith, told_of_text, told_of_source}
+use Rattle.di_top.specs.CommandFiles.{StopsWith, told_of_text, told_of_expand}
 use Rattle.di_top.specs.Sources.{IsFileOf}
 use Rattle.di_top.proofs.Compiling.{if_err}
-use Rattle.di_top.proofs.Stops.{text_stops, source_stops, grammar_stops}
+use Rattle.di_top.proofs.Stops.{text_stops, expand_stops, grammar_stops}
 use Rattle.di_top.proofs.command.read_command.Goals as goal
 
 pub returns-in_err-file-clause-stop : goal.returns-in_err-file-clause-stop
@@ -25,10 +25,10 @@ returns-in_err-command-clause-stop c =
     let read : IsFileOf c.args.bytes.now c.in_ok-file.file.names c.in_ok-file.file.sentences =
     record { few = few; text = c.in_ok-file.ensures.ok.0; shallow = c.in_ok-file.ensures.ok.1 } in
     let P : Outcome → Type 0 = λ x. (x ≡ NoMemory) ⊎ StopsWith c.args.bytes.now x in
-    let Q : Outcome → Type 0 = λ x. x ≡ told_of_source c.in_err-command.field-0.0 in
+    let Q : Outcome → Type 0 = λ x. x ≡ told_of_expand c.in_err-command.field-0.0 in
     if_err c.from_residual-in_err-command.result Q P
-    (λ x e. let s : told_of_source c.in_err-command.field-0.0 ≡ x = sym e in
-    subst P s (source_stops c.args.bytes.now c.in_ok-file.file.names c.in_ok-file.file.sentences c.in_err-command.field-0.0 read c.in_err-command.ensures.refused))
+    (λ x e. let s : told_of_expand c.in_err-command.field-0.0 ≡ x = sym e in
+    subst P s (expand_stops c.args.bytes.now c.in_ok-file.file.names c.in_ok-file.file.sentences c.in_err-command.field-0.0 read c.in_err-command.ensures.refused))
     c.from_residual-in_err-command.ensures.1
 
 pub returns-in-Some-clause-stop : goal.returns-in-Some-clause-stop

@@ -1,0 +1,90 @@
+//! Whole calls that compile one process with one wait or in rounds.
+use crate::calls::{Ran, call, repeated};
+use di_top::Outcome;
+use std::alloc::Global;
+use std::test::Fail;
+
+fn compile(alloc: Global, text: &str) -> Result<Ran, Fail> {
+    call(alloc, "compile wide F", Some(text), Vec::new(alloc))
+}
+
+// Commands, and what their netlists have behind the line of the command.
+#[test]
+fn compiles_processes(rt: HostRuntime) -> Result<(), Fail> {
+    let alloc = rt.alloc();
+    let rows = [
+        (
+            "pref*[a?;b!;a?;c!]",
+            "port a? 0\nport b! 1\nport c! 2\nTOGGLE 0 > 1 2\nend\n",
+        ),
+        (
+            "pref*[a?;b!;a?;b!;a?;b!;a?;b!]",
+            "port a? 0\nport b! 1\nTOGGLE 0 > 2 3\nTOGGLE 2 > 4 5\nTOGGLE 3 > 6 7\nMERGE 4 6 5 7 > 1\nend\n",
+        ),
+        ("pref*[b!;a?]", "port b! 0\nport a? 1\nIWIRE 1 > 0\nend\n"),
+        (
+            "pref*[(a?|b?);c!]",
+            "port a? 0\nport b? 1\nport c! 2\nMERGE 0 1 > 2\nend\n",
+        ),
+        (
+            "pref[b!;*[a?;c!]]",
+            "port b! 0\nport a? 1\nport c! 2\nWIRE 1 > 2\nSOURCE > 0\nend\n",
+        ),
+    ];
+    for (command, lines) in rows {
+        let text = format!(in alloc; "main := {command}.")?;
+        let ran = compile(alloc, text.as_str())?;
+        let netlist = format!(in alloc; "dinet 1\nspec {command}\n{lines}")?;
+        assert!(rt; ran.out.bytes() == netlist.as_bytes(), "{command}");
+        assert!(rt; ran.say.bytes().is_empty(), "{command}");
+        assert_eq!(rt; ran.outcome, Outcome::Done);
+    }
+    Ok(())
+}
+
+// A choice of two inputs in brackets, beside one more in further brackets, and so on; then an output.
+fn nested_choice(alloc: Global, depth: u32) -> Result<String, Fail> {
+    let mut text = repeated(alloc, "main := pref*[", "(", depth, "b?")?;
+    for level in 0..depth {
+        write!(text, "|a{level}?)")?;
+    }
+    text.push_str(";z!].")?;
+    Ok(text)
+}
+
+// As deep as brackets may be: one MERGE of 65 inputs; and one deeper.
+#[test]
+fn compiles_nested_choices(rt: HostRuntime) -> Result<(), Fail> {
+    let alloc = rt.alloc();
+    let text = nested_choice(alloc, 64)?;
+    let ran = compile(alloc, text.as_str())?;
+    assert_eq!(rt; ran.outcome, Outcome::Done);
+    assert!(rt; ran.out.bytes().ends_with(b" 61 62 63 64 > 65\nend\n"));
+    let text = nested_choice(alloc, 65)?;
+    let ran = compile(alloc, text.as_str())?;
+    assert!(rt; ran.say.bytes() == b"refused depth at 78\n".as_slice());
+    Ok(())
+}
+
+fn lines_of(bytes: &[u8], kind: &[u8]) -> usize {
+    let mut count = 0;
+    for line in bytes.split(|byte| *byte == b'\n') {
+        if line.starts_with(kind) {
+            count += 1;
+        }
+    }
+    count
+}
+
+// 4,096 rounds have 4,095 TOGGLEs and one MERGE.
+#[test]
+fn compiles_many_rounds(rt: HostRuntime) -> Result<(), Fail> {
+    let alloc = rt.alloc();
+    let text = repeated(alloc, "main := pref*[a?;b!", ";a?;b!", 4095, "].")?;
+    let ran = compile(alloc, text.as_str())?;
+    assert_eq!(rt; ran.outcome, Outcome::Done);
+    assert_eq!(rt; lines_of(ran.out.bytes(), b"TOGGLE "), 4095);
+    assert_eq!(rt; lines_of(ran.out.bytes(), b"MERGE "), 1);
+    assert_eq!(rt; lines_of(ran.out.bytes(), b""), 4102);
+    Ok(())
+}

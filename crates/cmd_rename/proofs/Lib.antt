@@ -1,0 +1,5 @@
+pub mod Entries
+pub mod Trees
+pub mod Laws
+pub mod Orders
+pub mod Numbering

@@ -1,0 +1,4 @@
+pub mod Renaming
+pub mod Symbols
+pub mod Table
+pub mod Mirror
