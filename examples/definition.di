@@ -1,2 +1,4 @@
+# One cell under three names: a wire each time.
 let cell := pref*[a?;b!].
-main := cell.
+let pair := cell[c/a] || cell[d/a].
+main := cell[x/a,y/b].
