@@ -85,6 +85,13 @@ fn answers(rt: HostRuntime) -> Result<(), Fail> {
         ),
         (
             "compile wide F",
+            Some("let w := pref*[a?;b!]. main := w[a/b,b/a]."),
+            "dinet 1\nspec pref*[b?;a!]\nport b? 0\nport a! 1\nWIRE 0 > 1\nend\n",
+            "",
+            0,
+        ),
+        (
+            "compile wide F",
             Some("main := pref*[a?;a!]."),
             "",
             "refused G7 process 1 place 2 against process 1 place 1\n",
@@ -265,19 +272,62 @@ fn refuses_commands(rt: HostRuntime) -> Result<(), Fail> {
     Ok(())
 }
 
-// What `check F` prints and says of files that are no text of the grammar, or have definitions, and the status.
+// What `check F` prints and says of files that are no text of the grammar, or have definitions, and the
+// status.
 #[test]
 fn refuses_texts(rt: HostRuntime) -> Result<(), Fail> {
     let alloc = rt.alloc();
     let rows = [
         ("", "", "refused text at 0\n", 1),
         ("main := pref*[a?;", "", "refused text at 17\n", 1),
-        ("main := v.", "", "refused form\n", 1),
+        ("main := v.", "", "refused unknown name at 8\n", 1),
         (
-            "let v := pref*[a?;b!]. main := pref*[a?;b!].",
+            "let v := v. main := v.",
             "",
-            "refused form\n",
+            "refused early use at 9\n",
             1,
+        ),
+        (
+            "let v := pref*[a?;b!]. let v := pref*[a?;b!]. main := v.",
+            "",
+            "refused second definition at 27\n",
+            1,
+        ),
+        (
+            "let w := pref*[a?;b!]. main := w[x/a,y/a].",
+            "",
+            "refused second renaming at 39\n",
+            1,
+        ),
+        (
+            "let w := pref*[a?;b!]. main := w[x/c].",
+            "",
+            "refused renaming of no symbol at 35\n",
+            1,
+        ),
+        (
+            "let w := pref*[a?;b!]. main := w[b/a].",
+            "",
+            "refused merging at 33\n",
+            1,
+        ),
+        (
+            "let w := pref*[a?;b!]. main := w[x/a,y/b]||w[y/a,z/b].",
+            "",
+            "refused G7 process 2 place 1 against process 1 place 2\n",
+            1,
+        ),
+        (
+            "let w := pref*[a?;b!]. main := w[x/a]||w[z/a].",
+            "admitted\nprocesses 2\nsymbols 3\nplaces 4\n",
+            "",
+            0,
+        ),
+        (
+            "let w := pref*[a?;b!]. let v := pref*[c?;d!]. main := v.",
+            "admitted\nprocesses 1\nsymbols 2\nplaces 2\n",
+            "",
+            0,
         ),
         ("main := pref*[a?;b%!].", "", "refused byte at 18\n", 1),
         ("main := pref*[a?;_!].", "", "refused token at 17\n", 1),

@@ -1,5 +1,5 @@
 -- What stops a command file, and what it gives, exclude one another; bytes that were loaded of an admitted text are all.
-use Rattle.std.proofs.Common.{◌≡◌, ℕ, ◌≤◌, List, Some, Result, Ok, Err, refl, sym, ap, ◌∙◌, subst, inl, inr, arith, take, length}
+use Rattle.std.proofs.Common.{◌≡◌, ℕ, ◌≤◌, List, [], Some, Result, Ok, Err, refl, sym, ap, ◌∙◌, subst, inl, inr, arith, take, length}
 use Rattle.std.specs.Prelude.{◌⊎◌}
 use Rattle.std.specs.Option.{IfSome}
 use Rattle.std.proofs.lemmas.List.{take_all, length-take}
@@ -74,8 +74,11 @@ not_stopped bytes names procs outcome a (Refuses is s e) =
 -- two admitted texts of the same bytes are of the same command
 pub one_text : (bytes : List ℕ) (names others : List (List ℕ)) (procs qrocs : List Proc) → IsAdmittedText bytes names procs → IsAdmittedText bytes others qrocs
     → procs ≡ qrocs
-one_text bytes names others procs qrocs a b =
-    let same : main names procs ≡ main others qrocs = one_source bytes (main names procs) (main others qrocs) a.source b.source in cc
+one_text bytes names others procs qrocs a b = ap procs_of (one_source bytes (main names procs) (main others qrocs) a.source b.source)
+  where
+    procs_of : Result Meant wrong.Refused → List Proc
+    procs_of (Ok m) = m.procs
+    procs_of (Err r) = []
 
 -- bytes that were loaded and are within the limit are the whole content
 pub loaded_whole : (r : Reading) (file bytes : List ℕ) → Loaded r file command_cap bytes → length bytes ≤ MAX_FILE_BYTES

@@ -139,7 +139,13 @@ fn refuses_at_the_first_place(rt: HostRuntime) -> Result<(), Fail> {
 }
 
 /// `head`, then `count` times `part` with `||` in between, then `tail`.
-fn woven(alloc: Global, head: &[u8], part: &[u8], count: usize, tail: &[u8]) -> Result<Vec<u8>, Fail> {
+fn woven(
+    alloc: Global,
+    head: &[u8],
+    part: &[u8],
+    count: usize,
+    tail: &[u8],
+) -> Result<Vec<u8>, Fail> {
     let mut text = Vec::from_slice(alloc, head)?;
     for index in 0..count {
         if index > 0 {
@@ -160,7 +166,10 @@ fn counts_what_is_too_much(rt: HostRuntime) -> Result<(), Fail> {
         257,
         b". main := pref*[a?].",
     )?;
-    assert_eq!(rt; meaning(rt.alloc(), text.as_slice()).err(), Some(ExpandRefusal::TooManyProcs { count: 257 }));
+    assert_eq!(rt;
+        meaning(rt.alloc(), text.as_slice()).err(),
+        Some(ExpandRefusal::TooManyProcs { count: 257 })
+    );
     let mut text = woven(rt.alloc(), b"let a := pref*[", b"", 0, b"")?;
     for index in 0..100 {
         if index > 0 {
@@ -179,6 +188,9 @@ fn counts_what_is_too_much(rt: HostRuntime) -> Result<(), Fail> {
         text.extend_from_slice(b". ")?;
     }
     text.extend_from_slice(b"let g := f||a||f. main := pref*[a?].")?;
-    assert_eq!(rt; meaning(rt.alloc(), text.as_slice()).err(), Some(ExpandRefusal::TooManyPlaces { count: 13_000 }));
+    assert_eq!(rt;
+        meaning(rt.alloc(), text.as_slice()).err(),
+        Some(ExpandRefusal::TooManyPlaces { count: 13_000 })
+    );
     Ok(())
 }

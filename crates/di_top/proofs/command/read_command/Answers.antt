@@ -31,8 +31,8 @@ returns-in_err-command-clause-stop c =
     subst P s (expand_stops c.args.bytes.now c.in_ok-file.file.names c.in_ok-file.file.sentences c.in_err-command.field-0.0 read c.in_err-command.ensures.refused))
     c.from_residual-in_err-command.ensures.1
 
-pub returns-in-Some-clause-stop : goal.returns-in-Some-clause-stop
-returns-in-Some-clause-stop c =
+pub returns-clause-stop : goal.returns-clause-stop
+returns-clause-stop c =
     let few : length c.args.bytes.now ≤ MAX_FILE_BYTES = omega (arith, c.if-bytes-gt-MAX_FILE_BYTES.false) in
     let read : IsFileOf c.args.bytes.now c.in_ok-file.file.names c.in_ok-file.file.sentences =
     record { few = few; text = c.in_ok-file.ensures.ok.0; shallow = c.in_ok-file.ensures.ok.1 } in
