@@ -281,12 +281,7 @@ fn refuses_texts(rt: HostRuntime) -> Result<(), Fail> {
         ("", "", "refused text at 0\n", 1),
         ("main := pref*[a?;", "", "refused text at 17\n", 1),
         ("main := v.", "", "refused unknown name at 8\n", 1),
-        (
-            "let v := v. main := v.",
-            "",
-            "refused early use at 9\n",
-            1,
-        ),
+        ("let v := v. main := v.", "", "refused early use at 9\n", 1),
         (
             "let v := pref*[a?;b!]. let v := pref*[a?;b!]. main := v.",
             "",

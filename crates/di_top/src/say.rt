@@ -76,16 +76,30 @@ fn print_refusal<S: Sink>(refusal: Refusal, printer: &mut Printer<'_, S>)
 fn print_expand<S: Sink>(refusal: ExpandRefusal, printer: &mut Printer<'_, S>)
     ensures { printer.new ≡ prints printer.old (expand_line refusal) }
 {
-    let (text, at): (&[u8], u32) = match refusal {
-        ExpandRefusal::UnknownName { at } => (b"refused unknown name at ", at),
-        ExpandRefusal::DefinedTwice { at } => (b"refused second definition at ", at),
-        ExpandRefusal::UsedBeforeDefined { at } => (b"refused early use at ", at),
-        ExpandRefusal::RenamedTwice { at } => (b"refused second renaming at ", at),
-        ExpandRefusal::RenameUnknown { at } => (b"refused renaming of no symbol at ", at),
-        ExpandRefusal::RenameMerges { at } => (b"refused merging at ", at),
-        _ => return,
-    };
-    print_numbered(text, at as u64, printer);
+    match refusal {
+        ExpandRefusal::UnknownName { at } => {
+            print_numbered(b"refused unknown name at ", at as u64, printer)
+        }
+        ExpandRefusal::DefinedTwice { at } => {
+            print_numbered(b"refused second definition at ", at as u64, printer)
+        }
+        ExpandRefusal::UsedBeforeDefined { at } => {
+            print_numbered(b"refused early use at ", at as u64, printer)
+        }
+        ExpandRefusal::RenamedTwice { at } => {
+            print_numbered(b"refused second renaming at ", at as u64, printer)
+        }
+        ExpandRefusal::RenameUnknown { at } => {
+            print_numbered(b"refused renaming of no symbol at ", at as u64, printer)
+        }
+        ExpandRefusal::RenameMerges { at } => {
+            print_numbered(b"refused merging at ", at as u64, printer)
+        }
+        ExpandRefusal::TooManySymbols { .. }
+        | ExpandRefusal::TooManyProcs { .. }
+        | ExpandRefusal::TooManyPlaces { .. }
+        | ExpandRefusal::NoMemory => {}
+    }
 }
 
 fn print_broken<S: Sink>(broken: Broken, printer: &mut Printer<'_, S>)
