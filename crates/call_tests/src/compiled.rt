@@ -70,7 +70,7 @@ fn lines_of(bytes: &[u8], kind: &[u8]) -> usize {
     let mut count = 0;
     for line in bytes.split(|byte| *byte == b'\n') {
         if line.starts_with(kind) {
-            count += 1;
+            count = count.saturating_add(1);
         }
     }
     count
