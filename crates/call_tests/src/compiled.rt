@@ -67,7 +67,7 @@ fn compiles_nested_choices(rt: HostRuntime) -> Result<(), Fail> {
 }
 
 fn lines_of(bytes: &[u8], kind: &[u8]) -> usize {
-    let mut count = 0;
+    let mut count: usize = 0;
     for line in bytes.split(|byte| *byte == b'\n') {
         if line.starts_with(kind) {
             count = count.saturating_add(1);
