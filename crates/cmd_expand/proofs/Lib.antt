@@ -7,3 +7,4 @@ pub mod Pushed
 pub mod Listed
 pub mod FileRead
 pub mod Commanded
+pub mod Alone

@@ -80,13 +80,6 @@ lines_pushed ms ls l qs a h = record {
         (subst (λ u. IsLine (ms ++ qs ∷ []) i l u) (sym (get_last ms qs [] i last))
         (subst (λ n. IsLine (ms ++ qs ∷ []) n l qs) (sym e) (line_kept ms qs (length ls) l qs (omega (arith, a.many)) h)))
 
-below_shape : (ms : List (List Proc)) (n : ℕ) (ps : List Proc) (shape : ℕ) → IsShape ms n ps shape → shape ≤ n
-below_shape ms n ps _ own = omega arith
-below_shape ms n ps _ (other shape k h e s) = omega (arith, k)
-
-pub lines_below : (ms : List (List Proc)) (ls : List Line) → AreLines ms ls → AreBelow ls
-lines_below ms ls a = λ i d f. let h = a.line i d f in (h.below, below_shape ms i (get_or ms i []) (get_or ls i d).shape h.shape)
-
 -- ---- the names of definitions
 pub record Grown (ns : List (List ℕ)) (n : List ℕ) : Type 0 where
   pub rest : List (List ℕ)

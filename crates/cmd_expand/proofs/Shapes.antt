@@ -2,7 +2,7 @@
 use Rattle.std.proofs.Common.{◌≡◌, ℕ, zero, suc, ◌+◌, ◌<◌, ◌≤◌, Bool, true, false, ◌||◌, List, [], ◌∷◌, ◌++◌, map, length, get_or, take, drop, ◌-◌, min, refl, sym, ap, ◌∙◌, arith, subst, append-nil, append_assoc, eqb-true}
 use Rattle.std.specs.Prelude.{IsTrue, nat_eq, if◌then◌else◌}
 use Rattle.std.specs.List.{AllByRecursion}
-use Rattle.std.proofs.lemmas.List.{length-map, map-append}
+use Rattle.std.proofs.lemmas.List.{length-map, map-append, take_more, drop_more}
 use Rattle.cmd_tree.specs.declared.tree.Proc.{Proc}
 use Rattle.cmd_tree.specs.Limits.{marks_of_all}
 use Rattle.cmd_tree.specs.Lists.{is_in}
@@ -16,7 +16,6 @@ use Rattle.cmd_expand.specs.declared.plan.Line.{Line}
 use Rattle.cmd_expand.specs.Mirror.Plan.{assigned, procs_of_part, procs_of_parts, IsShape, own, other, IsLine, AreLines}
 use Rattle.cmd_expand.specs.Mirror.Pieces.{numbered_by, procs_of_stack, procs_of_piece, IsPieceBelow}
 use Rattle.cmd_expand.specs.declared.unfolding.Piece.{Piece}
-use Rattle.cmd_expand.proofs.Tables.{take_more, drop_more}
 
 map_both : {A B C : Type 0} → (f : A → B) (g : B → C) (xs : List A) → map g (map f xs) ≡ map (λ x. g (f x)) xs
 map_both f g [] = refl

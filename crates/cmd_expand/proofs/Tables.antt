@@ -1,27 +1,12 @@
 -- Steps of the tables.
 use Rattle.std.proofs.Common.{◌≡◌, ◌≢◌, ℕ, zero, suc, ◌+◌, ◌<◌, ◌≤◌, take, drop, length, get_or, subst, Bool, ◌||◌, true, false, List, [], ◌∷◌, ◌++◌, Option, Some, None, refl, sym, ap, ◌∙◌, arith, eqb-true, eq-eqb, true≢false}
 use Rattle.std.specs.Prelude.{nat_eq, if◌then◌else◌, is_some}
+use Rattle.std.proofs.lemmas.List.{take_more, drop_more}
 use Rattle.cmd_tree.specs.Lists.{is_in}
 use Rattle.cmd_rename.specs.Table.{entry, IsListed}
 use Rattle.cmd_expand.specs.declared.pairs.Pair.{Pair}
 use Rattle.cmd_expand.specs.Pairs.{count_of, fault_of_pair, or_later, first_fault, first_fault_from}
 use Rattle.cmd_expand.specs.Mirror.Tables.{tally, Tallies, old_names_behind, old_names}
-
-pub take_more : {A : Type 0} → (xs : List A) (i : ℕ) (d : A) → i < length xs → take (i + 1) xs ≡ take i xs ++ get_or xs i d ∷ []
-take_more [] i d h = absurd (omega arith)
-take_more (x ∷ xs) zero d h = refl
-take_more (x ∷ xs) (suc i) d h = ap (λ n. take n (x ∷ xs)) (later i) ∙ ap (λ u. x ∷ u) (take_more xs i d (omega arith))
-  where
-    later : (j : ℕ) → suc j + 1 ≡ suc (j + 1)
-    later j = omega arith
-
-pub drop_more : {A : Type 0} → (xs : List A) (i : ℕ) (d : A) → i < length xs → drop i xs ≡ get_or xs i d ∷ drop (i + 1) xs
-drop_more [] i d h = absurd (omega arith)
-drop_more (x ∷ xs) zero d h = refl
-drop_more (x ∷ xs) (suc i) d h = drop_more xs i d (omega arith) ∙ ap (λ n. get_or xs i d ∷ drop n (x ∷ xs)) (sym (later i))
-  where
-    later : (j : ℕ) → suc j + 1 ≡ suc (j + 1)
-    later j = omega arith
 
 count_push : (a x : ℕ) (xs : List ℕ) (b : Bool) → nat_eq a x ≡ b → count_of a (xs ++ x ∷ []) ≡ (if b then suc (count_of a xs) else count_of a xs)
 count_push a x [] true e = ap (λ c. if c then 1 + 0 else 0) e
@@ -70,9 +55,3 @@ checked_whole xs ps i d l h n =
     h ∙ ap (first_fault_from xs ps (old_names (take i ps))) (drop_more ps i d l)
     ∙ ap (λ o. or_later o (first_fault_from xs ps ((get_or ps i d).was ∷ old_names (take i ps)) (drop (i + 1) ps))) n
     ∙ ap (λ es. first_fault_from xs ps es (drop (i + 1) ps)) (sym (ap old_names (take_more ps i d l) ∙ old_names_push (take i ps) (get_or ps i d)))
-
-pub drop_end : {A : Type 0} → (xs : List A) (i : ℕ) → length xs ≤ i → drop i xs ≡ []
-drop_end [] zero h = refl
-drop_end [] (suc i) h = refl
-drop_end (x ∷ xs) zero h = absurd (omega arith)
-drop_end (x ∷ xs) (suc i) h = drop_end xs i (omega arith)

@@ -1,7 +1,7 @@
 -- What a use, and the factors of a sentence, mean by the plan.
 use Rattle.std.proofs.Common.{◌≡◌, ℕ, ◌+◌, ◌<◌, ◌≤◌, List, [], ◌∷◌, ◌++◌, map, length, get_or, drop, Option, Some, None, Result, Ok, Err, refl, sym, ap, ◌∙◌, arith, subst, append_assoc, append-nil, length-append}
 use Rattle.std.specs.Option.{IfSome}
-use Rattle.std.proofs.lemmas.List.{length-map}
+use Rattle.std.proofs.lemmas.List.{length-map, drop_more, drop_all}
 use Rattle.cmd_tree.specs.declared.tree.Proc.{Proc}
 use Rattle.cmd_text.specs.declared.file.Sentence.{Sentence}
 use Rattle.cmd_text.specs.declared.file.Factor.{Factor}
@@ -15,7 +15,6 @@ use Rattle.cmd_expand.specs.Pairs.{pair_of, first_fault, Refused}
 use Rattle.cmd_expand.specs.Expansion.{Known, found, missing, use_of, renamed_by, factor, weave, prepend, followed, within, limited, body, and_then, definition, defined_by, name_of, last_of}
 use Rattle.cmd_expand.specs.Mirror.Plan.{procs_known, IsLine, IsPlan}
 use Rattle.cmd_expand.proofs.Found.{found_at, found_past, number_in, inserted_in}
-use Rattle.cmd_expand.proofs.Tables.{drop_more, drop_end}
 
 pub if_some_map : {A : Type 0} → (o : Option A) (P Q : A → Type 0) → ((r : A) → P r → Q r) → IfSome o P → IfSome o Q
 if_some_map None P Q f h = tt
@@ -71,7 +70,7 @@ module _ (names : List (List ℕ)) (file : List Sentence) (known : List Known) w
   weave_wrong fs i f ps r l h w e = ap within (w ∙ ap (prepend ps) (rest_of fs i f l h ∙ ap (λ u. followed u (weave names file known (drop (i + 1) fs))) e))
 
   pub weave_whole : (fs : List Factor) (i : ℕ) (ps : List Proc) → length fs ≤ i → weave names file known fs ≡ prepend ps (weave names file known (drop i fs)) → body names file known fs ≡ limited ps
-  weave_whole fs i ps l w = ap within (w ∙ ap (λ u. prepend ps (weave names file known u)) (drop_end fs i l) ∙ ap Ok (append-nil ps))
+  weave_whole fs i ps l w = ap within (w ∙ ap (λ u. prepend ps (weave names file known u)) (drop_all i fs l) ∙ ap Ok (append-nil ps))
 
 -- ---- sentence by sentence
 module _ (names : List (List ℕ)) (file : List Sentence) where
@@ -94,4 +93,4 @@ module _ (names : List (List ℕ)) (file : List Sentence) where
   last_wrong known ds i s m r w l h e d = e ∙ last_at known ds i s m l h ∙ ap (λ u. and_then u (λ qs. last_of names file (known ++ defined_by (name_of s.name) qs ∷ []) (drop (i + 1) ds ++ m ∷ []))) d
 
   pub last_main : (known : List Known) (ds : List Sentence) (i : ℕ) (m : Sentence) (w : Result (List Proc) Refused) → length ds ≤ i → w ≡ last_of names file known (drop i ds ++ m ∷ []) → w ≡ body names file known m.factors
-  last_main known ds i m w l e = e ∙ ap (λ u. last_of names file known (u ++ m ∷ [])) (drop_end ds i l)
+  last_main known ds i m w l e = e ∙ ap (λ u. last_of names file known (u ++ m ∷ [])) (drop_all i ds l)

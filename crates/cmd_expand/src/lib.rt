@@ -8,6 +8,7 @@
 
 mod command;
 mod faults;
+mod laws;
 mod names;
 mod pairs;
 mod plan;
@@ -15,4 +16,5 @@ mod refusal;
 mod unfolding;
 
 pub use command::expand;
+pub use laws::own_command_law;
 pub use refusal::ExpandRefusal;

@@ -3,3 +3,4 @@ pub mod Trees
 pub mod Laws
 pub mod Orders
 pub mod Numbering
+pub mod Numbered

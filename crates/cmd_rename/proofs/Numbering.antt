@@ -12,7 +12,7 @@ use Rattle.cmd_rename.specs.Symbols.{symbols_in, put, put_each, symbols_of, rank
 use Rattle.cmd_rename.proofs.Laws.{ren_marks_of}
 use Rattle.cmd_rename.proofs.Orders.{put_in, put_new}
 
-rank_front : (xs ys : List ℕ) (a : ℕ) → IsTrue (is_in a xs) → rank (xs ++ ys) a ≡ rank xs a
+pub rank_front : (xs ys : List ℕ) (a : ℕ) → IsTrue (is_in a xs) → rank (xs ++ ys) a ≡ rank xs a
 rank_front [] ys a h = absurd (cc)
 rank_front (x ∷ xs) ys a h = by (nat_eq a x) h (λ k. rank_front xs ys a k)
   where
@@ -20,7 +20,7 @@ rank_front (x ∷ xs) ys a h = by (nat_eq a x) h (λ k. rank_front xs ys a k)
     by true k f = refl
     by false k f = ap suc (f k)
 
-rank_new : (xs ys : List ℕ) (a : ℕ) → is_in a xs ≡ false → rank (xs ++ a ∷ ys) a ≡ length xs
+pub rank_new : (xs ys : List ℕ) (a : ℕ) → is_in a xs ≡ false → rank (xs ++ a ∷ ys) a ≡ length xs
 rank_new [] ys a h = ap (λ b. if b then 0 else suc (rank ys a)) (eq-eqb a a refl)
 rank_new (x ∷ xs) ys a h = by (nat_eq a x) h (λ k. rank_new xs ys a k)
   where

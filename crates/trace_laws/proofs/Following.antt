@@ -43,13 +43,6 @@ entered out side x g n at last e o a s b = (
   ]),
 )
 
-pub not_entered : (out : ℕ → Bool) (side : Bool) (x : List ℕ) (g : List ℕ → Option (List ℕ)) → ((s : List ℕ) (b : ℕ) → out b ≡ side → x ≡ s ++ b ∷ [] → ⊥)
-    → Entered out side x g g
-not_entered out side x g f s b = (λ k. inl k, λ k. elim k [ inl m ↦ m | inr m ↦ absurd (f s b m.0 m.1) ])
-
-pub none_follow : (out : ℕ → Bool) (side : Bool) (W : List (List ℕ)) (g : List ℕ → Option (List ℕ)) → ((s : List ℕ) → g s ≡ None) → FollowUpTo out side W 0 g
-none_follow out side W g e s b = (λ k. absurd (subst (λ o. RowHas o b) (e s) k), λ k. absurd (omega (arith, k.1.1)))
-
 pub follow_more : (out : ℕ → Bool) (side : Bool) (W items : List (List ℕ)) (i : ℕ) (x : List ℕ) (g n : List ℕ → Option (List ℕ)) → items ≡ W
     → i < length items → x ≡ get_or items i x → Entered out side x g n → FollowUpTo out side W i g → FollowUpTo out side W (i + 1) n
 follow_more out side W items i x g n e l r a f s b =
@@ -89,9 +82,6 @@ all_may W row x n l all = (
   λ e. absurd (let z : false ≡ true = e in cc),
   λ h. absurd (h.2 (subst (λ b. Contains W (x ++ b ∷ [])) (get_or_default row h.1.0 0 h.0 h.1.1 ∙ h.1.2) (all h.1.0 (omega (arith, h.1.1, l))))),
 )
-
-pub one_lacks : (W : List (List ℕ)) (row x : List ℕ) (k : ℕ) → k < length row → (Contains W (x ++ get_or row k 0 ∷ []) → ⊥) → IsTrue true ↔ LacksOneOf W row x
-one_lacks W row x k l m = (λ e. (get_or row k 0, (k, l, get_or_default row k (get_or row k 0) 0 l), m), λ h. refl)
 
 pub cut_last : (x f : List ℕ) (n a : ℕ) → n ≡ length x → 0 < n → f ≡ take (n - 1) x → a ≡ get_or x (n - 1) 0 → x ≡ f ++ a ∷ []
 cut_last x f n a e l p q =

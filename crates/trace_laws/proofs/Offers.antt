@@ -79,9 +79,6 @@ offers_more F i o m n a b = same_offers (λ t. Below F i t ⊎ F i t) (Below F (
   back : (t : List ℕ) → Below F (i + 1) t → Below F i t ⊎ F i t
   back t (k, l, f) = elim (below_or k i l) [ inl h ↦ inl (k, h, f) | inr e ↦ inr (subst (λ j. F j t) e f) ]
 
-pub none_below : (F : ℕ → List ℕ → Type 0) (o : Option (List ℕ)) → Improved (Below F 0) o o
-none_below F o = none_offered (Below F 0) o (λ t h. omega (arith, h.1))
-
 pub least_of : (F : List ℕ → Type 0) (n : Option (List ℕ)) → Improved F None n → LeastOf F n
 least_of F None i = i.covers
 least_of F (Some t) i = (by i.from, i.covers) where

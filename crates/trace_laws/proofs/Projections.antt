@@ -18,10 +18,6 @@ filtered p (x ∷ xs) = by (p x.0) (filtered p xs) where
   by true h = ap (λ l. x.0 ∷ l) h
   by false h = h
 
-pub skipped : (xs kept : List Sym) (i : ℕ) (d : Sym) → i < length xs → is_in (get_or xs i d).0 (numbers kept) ≡ false
-    → projected (drop i xs) kept ≡ projected (drop (i + 1) xs) kept
-skipped xs kept i d l e = at_drop_more (λ ys. projected ys kept) xs i d l ∙ ap (λ b. cond b ((get_or xs i d).0 ∷ projected (drop (i + 1) xs) kept) (projected (drop (i + 1) xs) kept)) e
-
 pub taken : (xs kept : List Sym) (i : ℕ) (d : Sym) → i < length xs → is_in (get_or xs i d).0 (numbers kept) ≡ true
     → projected (drop i xs) kept ≡ (get_or xs i d).0 ∷ projected (drop (i + 1) xs) kept
 taken xs kept i d l e = at_drop_more (λ ys. projected ys kept) xs i d l ∙ ap (λ b. cond b ((get_or xs i d).0 ∷ projected (drop (i + 1) xs) kept) (projected (drop (i + 1) xs) kept)) e

@@ -57,15 +57,6 @@ least_along out T U h rule t l = record {
   least_trace = λ u b. l.least_trace u (breaks_too out U T (λ s. (h s).1) (λ s. (h s).0) rule u b);
 }
 
-pub few_rules : (out : ℕ → Bool) (T : List ℕ → Type 0) → ((j : ℕ) → j < 5 → (u : List ℕ) → Breaks out T j u → ⊥)
-    → (j : ℕ) (u : List ℕ) → Breaks out T j u → ⊥
-few_rules out T f zero u b = f 0 (omega arith) u b
-few_rules out T f (suc zero) u b = f 1 (omega arith) u b
-few_rules out T f (suc (suc zero)) u b = f 2 (omega arith) u b
-few_rules out T f (suc (suc (suc zero))) u b = f 3 (omega arith) u b
-few_rules out T f (suc (suc (suc (suc zero)))) u b = f 4 (omega arith) u b
-few_rules out T f (suc (suc (suc (suc (suc j))))) u b = b
-
 -- a set that can be decided and in which no rule is broken keeps the rules
 pub keeps : (out : ℕ → Bool) (T : List ℕ → Type 0) → ((t : List ℕ) → T t ⊎ (T t → ⊥)) → ((j : ℕ) (u : List ℕ) → Breaks out T j u → ⊥)
     → Insensitive T out
@@ -91,15 +82,6 @@ unbroken out T i (suc (suc (suc zero))) u b =
     b.missing (subst T (sym b.is) (i.carry b.before b.after b.first b.second b.last b.differ b.alike b.followed b.present))
 unbroken out T i (suc (suc (suc (suc zero)))) u b = b.missing (subst T (sym b.is) (i.both b.before b.first b.second b.differ b.one b.other))
 unbroken out T i (suc (suc (suc (suc (suc j))))) u b = b
-
-pub least_so : (out : ℕ → Bool) (T : List ℕ → Type 0) (rule : ℕ) (t u : List ℕ) → u ≡ t → LeastOf (Breaks out T rule) (Some t)
-    → ((j : ℕ) → j < rule → (u : List ℕ) → Breaks out T j u → ⊥) → LeastBroken out T rule u
-least_so out T rule t u e l f = subst (LeastBroken out T rule) (sym e) (record { broken = l.0; least_rule = by; least_trace = l.1 }) where
-  side : (j : ℕ) → (j < rule) ⊎ (rule ≤ j)
-  side j = grind arith
-
-  by : (j : ℕ) (u : List ℕ) → Breaks out T j u → rule ≤ j
-  by j u b = elim (side j) [ inl h ↦ absurd (f j h u b) | inr h ↦ h ]
 
 pub rule_more : (out : ℕ → Bool) (T : List ℕ → Type 0) (rule : ℕ) → LeastOf (Breaks out T rule) None
     → ((j : ℕ) → j < rule → (u : List ℕ) → Breaks out T j u → ⊥) → (j : ℕ) → j < rule + 1 → (u : List ℕ) → Breaks out T j u → ⊥

@@ -145,13 +145,6 @@ ends_twice x p l e = record {
   is = split_two x p (omega (arith, l)) ∙ (λ i. take p x ++ (get_or x p 0 ∷ (sym e i ∷ drop_all (p + 2) x (omega (arith, l)) i)));
 }
 
-pub twice_ends : (x : List ℕ) (p : ℕ) → p + 2 ≡ length x → EndsTwice x → get_or x p 0 ≡ get_or x (p + 1) 0
-twice_ends x p l d =
-    let n : length x ≡ length d.before + 2 = ap length d.is ∙ length-append d.before (d.symbol ∷ d.symbol ∷ []) in
-    let q : p ≡ length d.before = omega (arith, l, n) in
-    ap (λ z. get_or z p 0) d.is ∙ ap (λ k. get_or (d.before ++ d.symbol ∷ d.symbol ∷ []) k 0) q ∙ first_at d.before d.symbol d.symbol []
-    ∙ sym (ap (λ z. get_or z (p + 1) 0) d.is ∙ ap (λ k. get_or (d.before ++ d.symbol ∷ d.symbol ∷ []) (k + 1) 0) q ∙ second_at d.before d.symbol d.symbol [])
-
 -- where the empty trace is listed, each missing beginning is a front of a listed trace
 pub beginnings_show : (W : List (List ℕ)) (t : List ℕ) → Contains W [] → OfEach (BeginsAt W) W (length W) t ↔ MissingBeginning (Contains W) t
 beginnings_show W t none = (λ h. to h, back) where

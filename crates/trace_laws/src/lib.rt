@@ -10,7 +10,6 @@ mod followers;
 mod laws;
 mod least;
 mod list;
-mod name;
 mod pieces;
 mod places;
 mod projection;

@@ -10,9 +10,8 @@ ghost use Rattle.trace_laws.specs.ListText.{IsListText, IsFaultyLine, line_told}
 ghost use Rattle.trace_laws.specs.Mirror.Reading.{pieces, pieces_left, left_size, with_names, with_header, headed, symbol_of, trace_of, with_traces, Listing, listing, dirs_of, Tells};
 
 use crate::list::{TraceList, TraceRefusal};
-use crate::name::is_name;
 use crate::pieces::first_piece;
-use cmd_text::NameTable;
+use cmd_text::{NameTable, is_name};
 use cmd_tree::{Dir, Sym};
 use std::alloc::{AllocError, Global};
 

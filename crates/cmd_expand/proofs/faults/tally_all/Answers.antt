@@ -1,6 +1,7 @@
 use Rattle.std.proofs.Common.{◌∙◌, sym, subst, take, get_or, List, ℕ}
 use Rattle.cmd_expand.specs.Mirror.Tables.{Tallies}
-use Rattle.cmd_expand.proofs.Tables.{tallies_push, take_more}
+use Rattle.std.proofs.lemmas.List.{take_more}
+use Rattle.cmd_expand.proofs.Tables.{tallies_push}
 use Rattle.cmd_expand.proofs.faults.tally_all.Goals as goal
 
 pub loop-number-preserved : goal.loop-number-preserved
