@@ -43,87 +43,88 @@ pub fn call(
 const USAGE: &str =
     "usage: dic compile wide|two F, check F, count wide|two F, run N S [count|peak], drive N SEED STEPS, rules F, big N\n";
 
-// Calls in turn, each with the words, the content of F, what out and say gain, and the status.
+// Words, the content of F, what a call with them puts on out and says, and the status.
+const CALLS: [(&str, Option<&str>, &str, &str, u8); 14] = [
+    (
+        "compile wide F",
+        Some("main := pref*[a?;b!]."),
+        "dinet 1\nspec pref*[a?;b!]\nport a? 0\nport b! 1\nWIRE 0 > 1\nend\n",
+        "",
+        0,
+    ),
+    (
+        "compile wide F",
+        Some("main := pref*[(a?||b?);(c!||d!)].\n"),
+        "dinet 1\nspec pref*[(a?||b?);(c!||d!)]\nport a? 0\nport b? 1\nport c! 2\nport d! 3\nC 0 1 > 4\nFORK 4 > 2 3\nend\n",
+        "",
+        0,
+    ),
+    (
+        "compile wide F",
+        Some("main := pref*[a?;(b!||c!)]."),
+        "dinet 1\nspec pref*[a?;(b!||c!)]\nport a? 0\nport b! 1\nport c! 2\nFORK 0 > 1 2\nend\n",
+        "",
+        0,
+    ),
+    (
+        "compile wide F",
+        Some("main := pref*[(a?||b?);c!]."),
+        "dinet 1\nspec pref*[(a?||b?);c!]\nport a? 0\nport b? 1\nport c! 2\nC 0 1 > 2\nend\n",
+        "",
+        0,
+    ),
+    (
+        "compile wide F",
+        Some("# one in, one out\nmain := pref*[a?;b!]."),
+        "dinet 1\nspec pref*[a?;b!]\nport a? 0\nport b! 1\nWIRE 0 > 1\nend\n",
+        "",
+        0,
+    ),
+    (
+        "compile wide F",
+        Some("let w := pref*[a?;b!]. main := w[a/b,b/a]."),
+        "dinet 1\nspec pref*[b?;a!]\nport b? 0\nport a! 1\nWIRE 0 > 1\nend\n",
+        "",
+        0,
+    ),
+    (
+        "compile wide F",
+        Some("main := pref*[a?;a!]."),
+        "",
+        "refused G7 process 1 place 2 against process 1 place 1\n",
+        1,
+    ),
+    (
+        "compile wide F",
+        Some("main := pref*[a?;c!]||pref*[b?;c!]."),
+        "",
+        "refused form\n",
+        1,
+    ),
+    (
+        "compile wide F",
+        Some("main := pref*[a?;b!;c?;d!]."),
+        "",
+        "refused form\n",
+        1,
+    ),
+    ("compile wide F", None, "", "read fault 1\n", 3),
+    (
+        "compile three F",
+        Some("main := pref*[a?;b!]."),
+        "",
+        USAGE,
+        2,
+    ),
+    ("compile wide", Some("main := pref*[a?;b!]."), "", USAGE, 2),
+    ("check F F", Some("main := pref*[a?;b!]."), "", USAGE, 2),
+    ("Check F", Some("main := pref*[a?;b!]."), "", USAGE, 2),
+];
+
 #[test]
 fn answers(rt: HostRuntime) -> Result<(), Fail> {
     let alloc = rt.alloc();
-    let rows = [
-        (
-            "compile wide F",
-            Some("main := pref*[a?;b!]."),
-            "dinet 1\nspec pref*[a?;b!]\nport a? 0\nport b! 1\nWIRE 0 > 1\nend\n",
-            "",
-            0,
-        ),
-        (
-            "compile wide F",
-            Some("main := pref*[(a?||b?);(c!||d!)].\n"),
-            "dinet 1\nspec pref*[(a?||b?);(c!||d!)]\nport a? 0\nport b? 1\nport c! 2\nport d! 3\nC 0 1 > 4\nFORK 4 > 2 3\nend\n",
-            "",
-            0,
-        ),
-        (
-            "compile wide F",
-            Some("main := pref*[a?;(b!||c!)]."),
-            "dinet 1\nspec pref*[a?;(b!||c!)]\nport a? 0\nport b! 1\nport c! 2\nFORK 0 > 1 2\nend\n",
-            "",
-            0,
-        ),
-        (
-            "compile wide F",
-            Some("main := pref*[(a?||b?);c!]."),
-            "dinet 1\nspec pref*[(a?||b?);c!]\nport a? 0\nport b? 1\nport c! 2\nC 0 1 > 2\nend\n",
-            "",
-            0,
-        ),
-        (
-            "compile wide F",
-            Some("# one in, one out\nmain := pref*[a?;b!]."),
-            "dinet 1\nspec pref*[a?;b!]\nport a? 0\nport b! 1\nWIRE 0 > 1\nend\n",
-            "",
-            0,
-        ),
-        (
-            "compile wide F",
-            Some("let w := pref*[a?;b!]. main := w[a/b,b/a]."),
-            "dinet 1\nspec pref*[b?;a!]\nport b? 0\nport a! 1\nWIRE 0 > 1\nend\n",
-            "",
-            0,
-        ),
-        (
-            "compile wide F",
-            Some("main := pref*[a?;a!]."),
-            "",
-            "refused G7 process 1 place 2 against process 1 place 1\n",
-            1,
-        ),
-        (
-            "compile wide F",
-            Some("main := pref*[a?;c!]||pref*[b?;c!]."),
-            "",
-            "refused form\n",
-            1,
-        ),
-        (
-            "compile wide F",
-            Some("main := pref*[a?;b!;c?;d!]."),
-            "",
-            "refused form\n",
-            1,
-        ),
-        ("compile wide F", None, "", "read fault 1\n", 3),
-        (
-            "compile three F",
-            Some("main := pref*[a?;b!]."),
-            "",
-            USAGE,
-            2,
-        ),
-        ("compile wide", Some("main := pref*[a?;b!]."), "", USAGE, 2),
-        ("check F F", Some("main := pref*[a?;b!]."), "", USAGE, 2),
-        ("Check F", Some("main := pref*[a?;b!]."), "", USAGE, 2),
-    ];
-    for (words, content, out, say, status) in rows {
+    for (words, content, out, say, status) in CALLS {
         let ran = call(alloc, words, content, Vec::new(alloc))?;
         assert!(rt; ran.out.bytes() == out.as_bytes(), "{words}");
         assert!(rt; ran.say.bytes() == say.as_bytes(), "{words}");

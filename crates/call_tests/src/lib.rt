@@ -5,3 +5,5 @@
 mod calls;
 #[cfg(test)]
 mod compiled;
+#[cfg(test)]
+mod judged;

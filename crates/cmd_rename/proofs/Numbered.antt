@@ -1,5 +1,5 @@
 -- Processes whose symbols are numbered by first occurrence stay as they are.
-use Rattle.std.proofs.Common.{◌≡◌, ℕ, zero, suc, ◌+◌, ◌≤◌, ◌<◌, Bool, true, false, ◌||◌, List, [], ◌∷◌, ◌++◌, map, length, length-append, max, Option, Some, None, refl, sym, ap, ◌∙◌, subst, arith, append-nil, add-one, eq-eqb, eqb-true}
+use Rattle.std.proofs.Common.{◌≡◌, ◌⊎◌, inl, inr, ℕ, zero, suc, ◌+◌, ◌≤◌, ◌<◌, Bool, true, false, ◌||◌, List, [], ◌∷◌, ◌++◌, map, length, length-append, max, Option, Some, None, refl, sym, ap, ◌∙◌, subst, arith, append-nil, add-one, eq-eqb, eqb-true}
 use Rattle.std.specs.Prelude.{IsTrue, nat_eq}
 use Rattle.cmd_tree.specs.declared.tree.Mark.{Mark}
 use Rattle.cmd_tree.specs.declared.tree.Proc.{Proc}

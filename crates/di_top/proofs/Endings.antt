@@ -13,8 +13,8 @@ use Rattle.di_top.specs.Say.{say_line}
 use Rattle.di_top.specs.Ends.{Spoke, Spoken, Broken, Ends, Finished, Stopped, Cut}
 use Rattle.di_top.specs.Promised.{Promise, CutLine, CanRise}
 use Rattle.di_top.specs.Headline.{Faultless, Headline, Appended}
-use Rattle.di_top.proofs.Stops.{loaded_whole}
-use Rattle.di_top.proofs.FormAnswers.{some_same, gives_admitted, one_answer, admits_told, admits_gives}
+use Rattle.di_top.proofs.Loads.{loaded_whole, some_same}
+use Rattle.di_top.proofs.FormAnswers.{gives_admitted, one_answer, admits_told, admits_gives}
 use Rattle.di_grammar.proofs.FairnessLaws.{weave_rules}
 use Rattle.di_io.proofs.Puts.{front_whole}
 

@@ -1,21 +1,20 @@
 -- What the forms of words give where the contents of their files are told: one outcome, and Done exactly of those that they admit.
 use Rattle.std.proofs.Common.{◌≡◌, ℕ, List, Option, Some, None, arith, refl, sym, ◌∙◌, subst, ap, length, inl, inr}
-use Rattle.std.proofs.lemmas.List.{take_all}
 use Rattle.std.specs.Prelude.{⊤}
 use Rattle.cmd_tree.specs.declared.tree.Proc.{Proc}
 use Rattle.di_top.specs.declared.outcome.Outcome.{Outcome}
 use Rattle.di_top.specs.declared.outcome.Outcome.TheVariants.{Done}
-use Rattle.di_top.specs.Requests.{Request, CompileWide, Check, files_of}
+use Rattle.di_top.specs.Requests.{Request, CompileWide, Check, Rules, files_of}
 use Rattle.di_top.specs.Calls.{Reading, Loaded, Unread, Quiet, Tells}
 use Rattle.di_top.specs.CommandFiles as held
-use Rattle.di_top.specs.CommandFiles.{command_cap, StopsWith, IsAdmittedText, IsSuited, FileHolds, FileGives, Fault, Bytes, Taken, FileAdmits}
+use Rattle.di_top.specs.CommandFiles.{StopsWith, IsAdmittedText, IsSuited, FileHolds, FileGives, Fault, Bytes, Taken, FileAdmits}
 use Rattle.di_top.specs.CompileForm.{Compiles, CompileUses, CompileGives, CompileAdmits}
 use Rattle.di_top.specs.CheckForm.{CheckUses, CheckGives, CheckAdmits}
 use Rattle.di_top.specs.Outcomes.{FormGives, Gives, Prints, Admits}
-use Rattle.di_top.proofs.Stops.{loaded_whole, not_stopped, one_text, one_stop, stops_are_stops}
-
-pub some_same : (x y : List ℕ) (o : Option (List ℕ)) → o ≡ Some x → o ≡ Some y → x ≡ y
-some_same x y o e k = cc
+use Rattle.di_top.specs.RulesForm.{Judged}
+use Rattle.di_top.proofs.Loads.{loaded_whole, whole_loaded, one_load}
+use Rattle.di_top.proofs.Stops.{not_stopped, one_text, one_stop, stops_are_stops}
+use Rattle.di_top.proofs.ListAnswers.{rules_only, printed_admits, rules_answer, admits_lists}
 
 -- the file of an admitted command that suits
 holds_admits : (Suits : List Proc → Type 0) (r : Reading) (file : List ℕ) (names : List (List ℕ)) (procs : List Proc) → FileHolds r file names procs
@@ -48,19 +47,17 @@ gives_admitted (Some (CompileWide file)) r (inl e) t = absurd (cc)
 gives_admitted (Some (CompileWide file)) r (inr g) t = compile_only r file g t.0.0 t.0.1
 gives_admitted (Some (Check file)) r (inl e) t = absurd (cc)
 gives_admitted (Some (Check file)) r (inr g) t = check_only r file g t.0.0 t.0.1
+gives_admitted (Some (Rules file)) r (inl e) t = absurd (cc)
+gives_admitted (Some (Rules file)) r (inr g) t = rules_only r file g t.0.0 t.0.1
 
 pub prints_admitted : (request : Option Request) (r : Reading) (text : List ℕ) → Prints request r text → Tells r (files_of request) → Admits request r
 prints_admitted None r text p t = absurd p
 prints_admitted (Some (CompileWide file)) r text p t =
     holds_admits Compiles r file p.command.names p.command.procs p.held p.compiles t.0.0 t.0.1
 prints_admitted (Some (Check file)) r text p t = holds_admits (λ procs. ⊤) r file p.names p.procs p.held tt t.0.0 t.0.1
+prints_admitted (Some (Rules file)) r text p t = printed_admits r file p.bytes text p.loaded p.judged t.0.0 t.0.1
 
 -- ---- one outcome
--- the bytes that are loaded of a content are the same each time
-one_load : (r : Reading) (file bytes others : List ℕ) → ((all : List ℕ) × (r.content file ≡ Some all)) → Loaded r file command_cap bytes
-    → Loaded r file command_cap others → bytes ≡ others
-one_load r file bytes others (all, told) l m = l.told all told ∙ sym (m.told all told)
-
 file_answer : (Used : List Proc → Outcome → Type 0) → ((procs : List Proc) (a b : Outcome) → Used procs a → Used procs b → a ≡ b)
     → (r : Reading) (file : List ℕ) → ((all : List ℕ) × (r.content file ≡ Some all)) → (Unread r file → ⊥)
     → (a b : Outcome) → FileGives Used r file a → FileGives Used r file b → a ≡ b
@@ -96,18 +93,14 @@ pub one_answer : (request : Option Request) (r : Reading) → Tells r (files_of 
 one_answer None r t q a b e h = e ∙ sym h
 one_answer (Some (CompileWide file)) r t q a b g h = file_answer CompileUses compile_once r file t.0 q.0 a b g h
 one_answer (Some (Check file)) r t q a b g h = file_answer CheckUses check_once r file t.0 q.0 a b g h
+one_answer (Some (Rules file)) r t q a b g h = rules_answer r file t.0 q.0 a b g h
 
 -- ---- what is admitted is done
--- the content of a file that is within the limit is loaded whole
 admits_holds : (Suits : List Proc → Type 0) (r : Reading) (file : List ℕ) (a : FileAdmits Suits r file)
     → FileHolds r file a.suited.names a.suited.procs
 admits_holds Suits r file a = record {
   bytes = a.content;
-  loaded = record {
-    most = omega (arith, a.suited.text.source.read.few);
-    told = λ all told. some_same a.content all (r.content file) a.told told
-        ∙ sym (take_all command_cap all (omega (arith, a.suited.text.source.read.few, ap length (some_same a.content all (r.content file) a.told told))));
-  };
+  loaded = whole_loaded r file a.content a.told a.suited.text.source.read.few;
   admitted = a.suited.text;
 }
 
@@ -115,9 +108,11 @@ pub admits_told : (request : Option Request) (r : Reading) → Admits request r 
 admits_told None r a = absurd a
 admits_told (Some (CompileWide file)) r a = ((a.content, a.told), tt)
 admits_told (Some (Check file)) r a = ((a.content, a.told), tt)
+admits_told (Some (Rules file)) r a = ((a.content, a.told), tt)
 
 pub admits_gives : (request : Option Request) (r : Reading) → Admits request r → FormGives request r Done
 admits_gives None r a = absurd a
 admits_gives (Some (CompileWide file)) r a =
     Taken a.suited.names a.suited.procs (admits_holds Compiles r file a) (inl (a.suited.suits, refl))
 admits_gives (Some (Check file)) r a = Taken a.suited.names a.suited.procs (admits_holds (λ procs. ⊤) r file a) refl
+admits_gives (Some (Rules file)) r a = Judged a.names a.dirs a.traces (admits_lists r file a) refl

@@ -1,4 +1,4 @@
--- What stops a command file, and what it gives, exclude one another; bytes that were loaded of an admitted text are all.
+-- What stops a command file, and what it gives, exclude one another.
 use Rattle.std.proofs.Common.{◌≡◌, ℕ, ◌≤◌, List, [], Some, Result, Ok, Err, refl, sym, ap, ◌∙◌, subst, inl, inr, arith, take, length}
 use Rattle.std.specs.Prelude.{◌⊎◌}
 use Rattle.std.specs.Option.{IfSome}
@@ -79,14 +79,6 @@ one_text bytes names others procs qrocs a b = ap procs_of (one_source bytes (mai
     procs_of : Result Meant wrong.Refused → List Proc
     procs_of (Ok m) = m.procs
     procs_of (Err r) = []
-
--- bytes that were loaded and are within the limit are the whole content
-pub loaded_whole : (r : Reading) (file bytes : List ℕ) → Loaded r file command_cap bytes → length bytes ≤ MAX_FILE_BYTES
-    → (all : List ℕ) → r.content file ≡ Some all → bytes ≡ all
-loaded_whole r file bytes l few all told =
-    let cut : bytes ≡ take command_cap all = l.told all told in
-    let short : length all ≤ MAX_FILE_BYTES = omega (arith, ap length cut, length-take command_cap all) in
-    cut ∙ take_all command_cap all (omega arith)
 
 -- what stops a call is no end of work
 pub stops_are_stops : (bytes : List ℕ) (outcome : Outcome) → StopsWith bytes outcome → IsStop outcome

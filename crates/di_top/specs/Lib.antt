@@ -6,6 +6,7 @@ pub mod Plans
 pub mod CommandFiles
 pub mod CompileForm
 pub mod CheckForm
+pub mod RulesForm
 pub mod Outcomes
 pub mod Promised
 pub mod Ends

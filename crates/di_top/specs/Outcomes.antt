@@ -2,16 +2,18 @@
 use Rattle.std.specs.Prelude.{◌≡◌, ◌⊎◌, ℕ, List, Option, Some, None}
 use Rattle.di_top.specs.declared.outcome.Outcome.{Outcome}
 use Rattle.di_top.specs.declared.outcome.Outcome.TheVariants.{Usage, NoMemory}
-use Rattle.di_top.specs.Requests.{Request, CompileWide, Check}
+use Rattle.di_top.specs.Requests.{Request, CompileWide, Check, Rules}
 use Rattle.di_top.specs.Calls.{Reading}
 use Rattle.di_top.specs.CompileForm.{CompileGives, CompilePrints, CompileAdmits}
 use Rattle.di_top.specs.CheckForm.{CheckGives, CheckPrints, CheckAdmits}
+use Rattle.di_top.specs.RulesForm.{RulesGives, RulesPrints, RulesAdmits}
 
 -- the outcomes that the order of a form allows, want of memory and writing apart
 abbrev pub FormGives : Option Request → Reading → Outcome → Type 0
 FormGives None r outcome = outcome ≡ Usage
 FormGives (Some (CompileWide file)) r outcome = CompileGives r file outcome
 FormGives (Some (Check file)) r outcome = CheckGives r file outcome
+FormGives (Some (Rules file)) r outcome = RulesGives r file outcome
 
 -- want of memory may be answered of any
 abbrev pub Gives : Option Request → Reading → Outcome → Type 0
@@ -22,9 +24,11 @@ abbrev pub Prints : Option Request → Reading → List ℕ → Type 0
 Prints None r text = ⊥
 Prints (Some (CompileWide file)) r text = CompilePrints r file text
 Prints (Some (Check file)) r text = CheckPrints r file text
+Prints (Some (Rules file)) r text = RulesPrints r file text
 
 -- the contents of the files for which the form is done
 abbrev pub Admits : Option Request → Reading → Type 0
 Admits None r = ⊥
 Admits (Some (CompileWide file)) r = CompileAdmits r file
 Admits (Some (Check file)) r = CheckAdmits r file
+Admits (Some (Rules file)) r = RulesAdmits r file

@@ -9,12 +9,17 @@ pub data Request : Type 0 where
   CompileWide : (file : List ℕ) → Request
   -- whether the command in this file is admitted
   Check : (file : List ℕ) → Request
+  -- whether the list of traces in this file keeps the rules of delay-insensitivity
+  Rules : (file : List ℕ) → Request
 
 -- what the words ask for: nothing where they are of no form
 abbrev pub request_of : List (List ℕ) → Option Request
 request_of (verb ∷ basis ∷ file ∷ []) =
     if bytes_eq verb (codes "compile") && bytes_eq basis (codes "wide") then Some (CompileWide file) else None
-request_of (verb ∷ file ∷ []) = if bytes_eq verb (codes "check") then Some (Check file) else None
+request_of (verb ∷ file ∷ []) =
+    if bytes_eq verb (codes "check") then Some (Check file)
+    else if bytes_eq verb (codes "rules") then Some (Rules file)
+    else None
 request_of _ = None
 
 abbrev pub asked : List (String Global) → Option Request
@@ -25,3 +30,4 @@ abbrev pub files_of : Option Request → List (List ℕ)
 files_of None = []
 files_of (Some (CompileWide file)) = file ∷ []
 files_of (Some (Check file)) = file ∷ []
+files_of (Some (Rules file)) = file ∷ []

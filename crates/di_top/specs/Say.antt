@@ -16,11 +16,13 @@ use Rattle.cmd_text.specs.declared.file.Refusal.TheVariants as text
 use Rattle.cmd_expand.specs.declared.refusal.ExpandRefusal.{ExpandRefusal}
 use Rattle.cmd_expand.specs.declared.refusal.ExpandRefusal.TheVariants as expand
 use Rattle.di_grammar.specs.declared.answer.Broken.{Broken}
+use Rattle.trace_laws.specs.declared.list.TraceRefusal.{TraceRefusal}
+use Rattle.trace_laws.specs.declared.list.TraceRefusal.TheVariants as traces
 use Rattle.text_lines.specs.Lines.{worded, numbered_line}
 use Rattle.di_top.specs.declared.outcome.Outcome.{Outcome}
 use Rattle.di_top.specs.declared.outcome.Outcome.TheVariants.{Done, Refused, Usage, ReadFault, WriteFault, NoMemory, Limit}
 use Rattle.di_top.specs.declared.outcome.Why.{Why}
-use Rattle.di_top.specs.declared.outcome.Why.TheVariants.{Text, Expand, NotThisForm, Grammar}
+use Rattle.di_top.specs.declared.outcome.Why.TheVariants.{Text, Expand, NotThisForm, Grammar, Traces}
 
 abbrev pub usage_line : List ℕ
 usage_line = codes "usage: dic compile wide|two F, check F, count wide|two F, run N S [count|peak], drive N SEED STEPS, rules F, big N\n"
@@ -52,11 +54,17 @@ grammar_line b =
     worded (codes "refused G") b.rule ++ worded (codes " process ") b.process ++ worded (codes " place ") b.place
     ++ worded (codes " against process ") b.other_process ++ numbered_line (codes " place ") b.other
 
+-- want of memory is no refusal of a list of traces
+abbrev pub traces_line : TraceRefusal → List ℕ
+traces_line (traces.BadLine line) = numbered_line (codes "refused traces line ") line
+traces_line traces.NoMemory = codes "no memory\n"
+
 abbrev pub why_line : Why → List ℕ
 why_line (Text refusal) = text_line refusal
 why_line (Expand refusal) = expand_line refusal
 why_line NotThisForm = codes "refused form\n"
 why_line (Grammar b) = grammar_line b
+why_line (Traces refusal) = traces_line refusal
 
 -- what each limit allows, from the first on; there are nine
 abbrev pub limits : List ℕ

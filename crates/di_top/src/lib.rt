@@ -8,6 +8,7 @@ mod laws;
 mod load;
 mod outcome;
 mod plan;
+mod rules_form;
 mod say;
 mod top;
 mod words;

@@ -5,6 +5,7 @@ use cmd_expand::ExpandRefusal;
 use cmd_text::Refusal;
 use di_grammar::Broken;
 use std::alloc::AllocError;
+use trace_laws::TraceRefusal;
 
 /// How a call of the program ended.
 #[derive(Debug, Clone, Copy, PartialEq, Eq)]
@@ -36,6 +37,8 @@ pub enum Why {
     NotThisForm,
     /// The command is not admitted.
     Grammar(Broken),
+    /// The file is no list of traces.
+    Traces(TraceRefusal),
 }
 
 impl Outcome {
@@ -101,6 +104,20 @@ impl From<ExpandRefusal> for Outcome {
             },
             ExpandRefusal::NoMemory => Outcome::NoMemory,
             _ => Outcome::Refused(Why::Expand(refusal)),
+        }
+    }
+}
+
+impl From<TraceRefusal> for Outcome {
+    ghost use Rattle.std.specs.Prelude.{◌≡◌};
+    ghost use Rattle.di_top.specs.RulesForm.{told_of_traces};
+
+    ghost from_gives = { λ refusal outcome. outcome ≡ told_of_traces refusal };
+
+    fn from(refusal: TraceRefusal) -> Outcome {
+        match refusal {
+            TraceRefusal::NoMemory => Outcome::NoMemory,
+            _ => Outcome::Refused(Why::Traces(refusal)),
         }
     }
 }

@@ -9,6 +9,7 @@ ghost use Rattle.di_top.specs.Plans.{text_of, IsStop};
 use crate::check_form::{Counts, plan_check, put_counts};
 use crate::compile_form::plan_compile;
 use crate::outcome::Outcome;
+use crate::rules_form::{Verdict, plan_rules, put_verdict};
 use crate::words::Task;
 use di_io::{PutFault, Shelf, Sink};
 use net_core::Net;
@@ -20,6 +21,7 @@ use std::alloc::Global;
 pub enum Plan {
     Compile(Net),
     Check(Counts),
+    Rules(Verdict),
 }
 
 /// Does all that a task asks for but its printing. On a failure that is no want of memory, the
@@ -35,6 +37,7 @@ pub fn decide<F: Shelf>(alloc: Global, task: Task, shelf: &mut F) -> Result<Plan
     match task {
         Task::CompileWide { file } => plan_compile(alloc, file, shelf),
         Task::Check { file } => plan_check(alloc, file, shelf),
+        Task::Rules { file } => plan_rules(alloc, file, shelf),
     }
 }
 
@@ -48,5 +51,6 @@ pub fn put_plan<S: Sink>(plan: &Plan, sink: &mut S) -> Result<(), PutFault>
     match plan {
         Plan::Compile(net) => write_net(net, sink),
         Plan::Check(counts) => put_counts(*counts, sink),
+        Plan::Rules(verdict) => put_verdict(verdict, sink),
     }
 }

@@ -5,7 +5,7 @@ ghost use Rattle.std.specs.Prelude.{◌≡◌, ◌≤◌, OnOk, OnErr};
 ghost use Rattle.di_io.specs.Faults.{Rose};
 ghost use Rattle.di_io.specs.Written.{Gains, GainsFront};
 ghost use Rattle.di_io.specs.Printing.{prints};
-ghost use Rattle.di_top.specs.Say.{say_line, why_line, text_line, expand_line, grammar_line, limit_line, allowed};
+ghost use Rattle.di_top.specs.Say.{say_line, why_line, text_line, expand_line, grammar_line, traces_line, limit_line, allowed};
 
 use crate::outcome::{Outcome, Why};
 use cmd_expand::ExpandRefusal;
@@ -17,6 +17,7 @@ use cmd_tree::{
 use di_grammar::Broken;
 use di_io::{Printer, PutFault, Sink};
 use text_lines::{print_numbered, print_worded};
+use trace_laws::TraceRefusal;
 
 /// Puts the line of an outcome; `Done` has none. After an error a front of it was put.
 #[tactic(auto, using(di_io::proofs::Prints::front_at), unfolding(di_io::specs::Printing::prints))]
@@ -56,6 +57,7 @@ fn print_why<S: Sink>(why: Why, printer: &mut Printer<'_, S>)
         Why::Expand(refusal) => print_expand(refusal, printer),
         Why::NotThisForm => printer.print(b"refused form\n"),
         Why::Grammar(broken) => print_broken(broken, printer),
+        Why::Traces(refusal) => print_traces(refusal, printer),
     }
 }
 
@@ -110,6 +112,17 @@ fn print_broken<S: Sink>(broken: Broken, printer: &mut Printer<'_, S>)
     print_worded(b" place ", broken.place as u64, printer);
     print_worded(b" against process ", broken.other_process as u64, printer);
     print_numbered(b" place ", broken.other as u64, printer);
+}
+
+fn print_traces<S: Sink>(refusal: TraceRefusal, printer: &mut Printer<'_, S>)
+    ensures { printer.new ≡ prints printer.old (traces_line refusal) }
+{
+    match refusal {
+        TraceRefusal::BadLine { line } => {
+            print_numbered(b"refused traces line ", line as u64, printer)
+        }
+        TraceRefusal::NoMemory => printer.print(b"no memory\n"),
+    }
 }
 
 fn print_limit<S: Sink>(limit: u8, value: u64, printer: &mut Printer<'_, S>)

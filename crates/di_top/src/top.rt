@@ -12,7 +12,8 @@ use di_io::{Shelf, Sink};
 use std::alloc::Global;
 
 /// Does what the words after the program's name ask for: `compile wide F` puts the netlist of the
-/// command in the file F on `out`.
+/// command in the file F on `out`, `check F` what it counts, and `rules F` whether the list of traces in
+/// the file F keeps the rules of delay-insensitivity.
 ///
 /// All memory is taken before the first put. With `Done`, `out` gained the whole text and `say`
 /// nothing. With `WriteFault`, `out` gained a front of the text. With any other outcome `out`

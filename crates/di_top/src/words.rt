@@ -8,6 +8,8 @@ pub enum Task<'a> {
     CompileWide { file: &'a str },
     /// Whether the command in this file is admitted.
     Check { file: &'a str },
+    /// Whether the list of traces in this file keeps the rules of delay-insensitivity.
+    Rules { file: &'a str },
 }
 
 /// What the words ask for, or None where they are of no form.
@@ -21,6 +23,9 @@ pub fn read_words(words: &[String]) -> Option<Task<'_>>
             })
         }
         [verb, file] if verb.as_str() == "check" => Some(Task::Check {
+            file: file.as_str(),
+        }),
+        [verb, file] if verb.as_str() == "rules" => Some(Task::Rules {
             file: file.as_str(),
         }),
         _ => None,
