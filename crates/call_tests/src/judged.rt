@@ -14,12 +14,7 @@ const LISTS: [(&str, &str, &str, u8); 10] = [
     ("in a\nout b\n\na\na b\n", "rules hold\n", "", 0),
     ("in a\nout b\n", "broken U0 missing\n", "", 0),
     ("in a\nout b\n\na\nb\n", "broken U4 missing a b\n", "", 0),
-    (
-        "in a\nout b\n\na\na b",
-        "",
-        "refused traces line 5\n",
-        1,
-    ),
+    ("in a\nout b\n\na\na b", "", "refused traces line 5\n", 1),
     ("", "", "refused traces line 1\n", 1),
     ("in a\n", "", "refused traces line 2\n", 1),
     ("in a\nout a\n\n", "", "refused traces line 2\n", 1),

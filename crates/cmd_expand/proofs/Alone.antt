@@ -1,20 +1,19 @@
 -- A file of `main` alone whose processes are all written out means its own command.
-use Rattle.std.proofs.Common.{◌≡◌, ℕ, zero, suc, ◌+◌, ◌≤◌, ◌<◌, Bool, true, false, List, [], ◌∷◌, ◌++◌, map, length, get_or, take, Result, Ok, Err, refl, sym, ap, ◌∙◌, subst, arith, add-one}
+use Rattle.std.proofs.Common.{◌≡◌, ℕ, zero, suc, ◌≤◌, Bool, true, false, List, [], ◌∷◌, ◌++◌, map, length, get_or, take, Ok, Err, refl, sym, ap, ◌∙◌, arith, add-one}
 use Rattle.std.specs.Prelude.{nat_lt, if◌then◌else◌}
 use Rattle.std.proofs.lemmas.List.{map-append, take_all, take_more}
 use Rattle.cmd_tree.specs.declared.tree.Proc.{Proc}
 use Rattle.cmd_tree.specs.declared.limits.TheConstants.{MAX_SYMBOLS, MAX_PROCESSES, MAX_PLACES}
 use Rattle.cmd_tree.specs.Limits.{places_of_all}
 use Rattle.cmd_text.specs.declared.file.Sentence.{Sentence}
-use Rattle.cmd_text.specs.declared.file.Factor.{Factor}
 use Rattle.cmd_text.specs.declared.file.Factor.TheVariants.{Own}
 use Rattle.cmd_text.proofs.MainRead.{main_read}
 use Rattle.cmd_rename.specs.Symbols.{symbols_of, renumbered, counted}
 use Rattle.cmd_rename.proofs.Numbered.{numbered_symbols, numbered_same, counted_long}
 use Rattle.cmd_expand.specs.Names.{with_factors, all_names}
 use Rattle.cmd_expand.specs.Files.{IsFile}
-use Rattle.cmd_expand.specs.Pairs.{Refused, TooManySymbols, TooManyProcs, TooManyPlaces}
-use Rattle.cmd_expand.specs.Expansion.{Meant, limited, within, followed, weave, last_of, command_of, expansion}
+use Rattle.cmd_expand.specs.Pairs.{TooManySymbols, TooManyProcs, TooManyPlaces}
+use Rattle.cmd_expand.specs.Expansion.{limited, within, followed, weave, last_of, command_of, expansion}
 use Rattle.cmd_expand.specs.Alone.{as_written}
 
 own_names : (names : List (List ℕ)) (ps : List Proc) → with_factors names (map Own ps) ≡ names
@@ -41,12 +40,14 @@ limited_as names ps xs e n m r = by (nat_lt MAX_SYMBOLS (length (symbols_of ps))
   where
     long : length (symbols_of ps) ≡ length names
     long = ap length e ∙ n
+
     named : map (λ a. get_or names a []) (symbols_of ps) ≡ names
     named = ap (map (λ a. get_or names a [])) e ∙ m
+
     by : (b c : Bool) → b ≡ c → (d f : Bool) → command_of names (if b then Err (TooManySymbols (length (symbols_of ps)))
-          else if d then Err (TooManyProcs (length ps)) else if f then Err (TooManyPlaces (places_of_all ps)) else Ok ps)
+        else if d then Err (TooManyProcs (length ps)) else if f then Err (TooManyPlaces (places_of_all ps)) else Ok ps)
         ≡ (if c then Err (TooManySymbols (length names)) else if d then Err (TooManyProcs (length ps))
-          else if f then Err (TooManyPlaces (places_of_all ps)) else Ok (record { names = names; procs = ps }))
+        else if f then Err (TooManyPlaces (places_of_all ps)) else Ok (record { names = names; procs = ps }))
     by true true q d f = ap (λ k. Err (TooManySymbols k)) long
     by true false q d f = absurd (cc)
     by false true q d f = absurd (cc)
@@ -62,4 +63,4 @@ own_command names main procs f e =
     let woven : weave names (main ∷ []) [] main.factors ≡ Ok procs = ap (weave names (main ∷ []) []) e ∙ own_weave names (main ∷ []) procs in
     ap (λ ns. command_of ns (last_of ns (main ∷ []) [] (main ∷ []))) same ∙ ap (λ r. command_of names (within r)) woven
     ∙ limited_as names procs (counted (length names)) (numbered_symbols procs (length names) h.numbered) (counted_long (length names)) (counted_names names)
-      (numbered_same procs (length names) h.numbered)
+    (numbered_same procs (length names) h.numbered)

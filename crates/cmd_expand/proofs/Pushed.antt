@@ -15,7 +15,7 @@ use Rattle.cmd_expand.specs.Names.{number, with_name}
 use Rattle.cmd_expand.specs.Pairs.{renamed}
 use Rattle.cmd_expand.specs.Expansion.{Known, defined_by}
 use Rattle.cmd_expand.proofs.Found.{number_out}
-use Rattle.cmd_expand.specs.Mirror.Plan.{procs_of_part, procs_of_parts, procs_known, IsBelow, IsShape, own, other, IsLine, AreLines, AreBelow, IsPlan, IsPlanOf}
+use Rattle.cmd_expand.specs.Mirror.Plan.{procs_of_part, procs_of_parts, procs_known, IsBelow, IsShape, own, other, IsLine, AreLines, IsPlan, IsPlanOf}
 
 pub get_front : {A : Type 0} → (xs ys : List A) (i : ℕ) (d : A) → i < length xs → get_or (xs ++ ys) i d ≡ get_or xs i d
 get_front [] ys i d h = absurd (omega arith)

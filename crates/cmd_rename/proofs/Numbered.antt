@@ -1,12 +1,12 @@
 -- Processes whose symbols are numbered by first occurrence stay as they are.
-use Rattle.std.proofs.Common.{◌≡◌, ◌⊎◌, inl, inr, ℕ, zero, suc, ◌+◌, ◌≤◌, ◌<◌, Bool, true, false, ◌||◌, List, [], ◌∷◌, ◌++◌, map, length, length-append, max, Option, Some, None, refl, sym, ap, ◌∙◌, subst, arith, append-nil, add-one, eq-eqb, eqb-true}
+use Rattle.std.proofs.Common.{◌≡◌, ◌⊎◌, inl, inr, ℕ, zero, suc, ◌+◌, ◌≤◌, ◌<◌, Bool, true, false, ◌||◌, List, [], ◌∷◌, ◌++◌, length, length-append, max, Option, Some, None, refl, sym, ap, ◌∙◌, subst, arith, add-one, eq-eqb, eqb-true}
 use Rattle.std.specs.Prelude.{IsTrue, nat_eq}
 use Rattle.cmd_tree.specs.declared.tree.Mark.{Mark}
 use Rattle.cmd_tree.specs.declared.tree.Proc.{Proc}
 use Rattle.cmd_tree.specs.Tree.{TItem, TSeq, TSeqs, TBurst, TAlt, Stop, Or, Done, Then}
 use Rattle.cmd_tree.specs.Limits.{marks_of_all, IsNumbered}
 use Rattle.cmd_tree.specs.Lists.{is_in}
-use Rattle.cmd_rename.specs.Renaming.{ren_mark, ren_marks, ren_seq, ren_item, ren_seqs, ren_part, ren_all}
+use Rattle.cmd_rename.specs.Renaming.{ren_marks, ren_seq, ren_item, ren_seqs, ren_part, ren_all}
 use Rattle.cmd_rename.specs.Symbols.{symbols_in, put, put_each, symbols_of, rank, renumbered, counted}
 use Rattle.cmd_rename.proofs.Laws.{Agree, in_left, in_right, ren_agree}
 use Rattle.cmd_rename.proofs.Orders.{put_in, put_new, in_each}
@@ -63,9 +63,9 @@ either false c h = inr (refl, h)
 in_counted : (n a : ℕ) → a < n → IsTrue (is_in a (counted n))
 in_counted zero a l = absurd (omega (arith, l))
 in_counted (suc n) a l = elim (side a n l) [
-  inl k ↦ in_left a (counted n) (n ∷ []) (in_counted n a k)
+  | inl k ↦ in_left a (counted n) (n ∷ []) (in_counted n a k)
   | inr e ↦ in_right a (counted n) (n ∷ []) (ap (λ b. b || false) (eq-eqb a n e))
-  ]
+]
   where
     side : (a n : ℕ) → a < suc n → (a < n) ⊎ (a ≡ n)
     side a n l = grind arith
@@ -73,9 +73,9 @@ in_counted (suc n) a l = elim (side a n l) [
 counted_below : (n a : ℕ) → IsTrue (is_in a (counted n)) → a < n
 counted_below zero a h = absurd (cc)
 counted_below (suc n) a h = elim (either (is_in a (counted n)) (nat_eq a n) (sym (in_last a n (counted n)) ∙ h)) [
-  inl k ↦ omega (arith, counted_below n a k)
+  | inl k ↦ omega (arith, counted_below n a k)
   | inr k ↦ omega (arith, eqb-true a n k.1)
-  ]
+]
 
 not_counted : (n : ℕ) → is_in n (counted n) ≡ false
 not_counted n = by (is_in n (counted n)) refl
@@ -88,9 +88,9 @@ not_counted n = by (is_in n (counted n)) refl
 rank_counted : (n a : ℕ) → IsTrue (is_in a (counted n)) → rank (counted n) a ≡ a
 rank_counted zero a h = absurd (cc)
 rank_counted (suc n) a h = elim (either (is_in a (counted n)) (nat_eq a n) (sym (in_last a n (counted n)) ∙ h)) [
-  inl k ↦ rank_front (counted n) (n ∷ []) a k ∙ rank_counted n a k
+  | inl k ↦ rank_front (counted n) (n ∷ []) a k ∙ rank_counted n a k
   | inr k ↦ last (eqb-true a n k.1)
-  ]
+]
   where
     last : a ≡ n → rank (counted n ++ n ∷ []) a ≡ a
     last e = ap (λ b. rank (counted n ++ n ∷ []) b) e ∙ rank_new (counted n) [] n (not_counted n) ∙ counted_long n ∙ sym e
@@ -99,16 +99,18 @@ rank_counted (suc n) a h = elim (either (is_in a (counted n)) (nat_eq a n) (sym 
 numbered_each : (k : ℕ) (ms : List Mark) (n : ℕ) → IsNumbered k ms n → put_each (counted k) (symbols_in ms) ≡ counted n
 numbered_each k [] n h = ap counted h
 numbered_each k (m ∷ ms) n h = elim (side m.sym.0 k h.0) [
-  inl l ↦ ap (λ xs. put_each xs (symbols_in ms)) (put_in (counted k) m.sym.0 (in_counted k m.sym.0 l))
+  | inl l ↦ ap (λ xs. put_each xs (symbols_in ms)) (put_in (counted k) m.sym.0 (in_counted k m.sym.0 l))
       ∙ numbered_each k ms n (subst (λ j. IsNumbered j ms n) (low k m.sym.0 l) h.1)
   | inr e ↦ ap (λ xs. put_each xs (symbols_in ms)) (ap (put (counted k)) e ∙ put_new (counted k) k (not_counted k))
       ∙ numbered_each (suc k) ms n (subst (λ j. IsNumbered j ms n) (new k m.sym.0 e) h.1)
-  ]
+]
   where
     side : (a k : ℕ) → a ≤ k → (a < k) ⊎ (a ≡ k)
     side a k l = grind arith
+
     low : (k a : ℕ) → a < k → max k (a + 1) ≡ k
     low k a l = omega (arith, l)
+
     new : (k a : ℕ) → a ≡ k → max k (a + 1) ≡ suc k
     new k a e = omega (arith, e)
 

@@ -59,11 +59,17 @@ pub judged : (bytes : List ℕ) (names : List (List ℕ)) (dirs : List Dir) (tra
     → IfSome broken (λ b. LeastBroken (output_by dirs) (Contains traces) b.rule (numbers b.trace.items))
     → IfSome broken (λ b. IsTrue b.present ↔ (b.rule ≡ 1)) → IsJudged bytes (verdict_text names broken)
 judged bytes names dirs traces None l holds least present = record {
-  names = names; dirs = dirs; traces = traces; list = l;
+  names = names;
+  dirs = dirs;
+  traces = traces;
+  list = l;
   is = Holds (holds.0 refl) refl;
 }
 judged bytes names dirs traces (Some b) l holds least present = record {
-  names = names; dirs = dirs; traces = traces; list = l;
+  names = names;
+  dirs = dirs;
+  traces = traces;
+  list = l;
   is = Breaks b.rule b.trace.items least (ap (λ p. broken_line names b.rule p b.trace.items) (is_one b.present b.rule present));
 }
 

@@ -1,5 +1,5 @@
 -- From the places where rules are broken to the rules.
-use Rattle.std.proofs.Common.{◌≡◌, ◌⊎◌, ◌↔◌, inl, inr, ℕ, zero, suc, ◌+◌, ◌<◌, ◌≤◌, map, arith, List, [], ◌∷◌, ◌++◌, refl, sym, ap, subst, Bool, Some, None}
+use Rattle.std.proofs.Common.{◌≡◌, ◌⊎◌, ◌↔◌, inl, inr, ℕ, zero, suc, ◌+◌, ◌<◌, map, List, [], ◌∷◌, ◌++◌, refl, sym, ap, subst, Bool, None}
 use Rattle.process_laws.specs.Insensitive.{Insensitive}
 use Rattle.trace_laws.specs.Breaks.{Breaks, LeastBroken}
 use Rattle.trace_laws.specs.Listed.{numbers, symbol}
