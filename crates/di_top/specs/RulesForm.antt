@@ -1,6 +1,6 @@
 -- The form `rules F`: it is done for each list of traces, and prints whether the set of the listed traces keeps the
 -- rules of delay-insensitivity, or the least rule that it breaks.
-use Rattle.std.specs.Prelude.{◌≡◌, ℕ, ◌≤◌, ◌<◌, Bool, nat_eq, if◌then◌else◌, List, ◌∷◌, ◌++◌, length, flat_map, codes, slice_index_or, Option, Some, None}
+use Rattle.std.specs.Prelude.{◌≡◌, ℕ, ◌≤◌, ◌<◌, Bool, nat_eq, if◌then◌else◌, List, [], ◌∷◌, ◌++◌, length, flat_map, codes, slice_index_or, Option, Some, None}
 use Rattle.std.specs.List.{Contains}
 use Rattle.cmd_tree.specs.declared.tree.Sym.{Sym}
 use Rattle.cmd_tree.specs.declared.tree.Dir.{Dir}
