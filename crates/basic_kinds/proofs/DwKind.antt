@@ -20,7 +20,8 @@ use Rattle.basic_kinds.specs.Totals.{total}
 use Rattle.basic_kinds.specs.KindCounts.{row_of, col_of, row_outs, col_outs, RowMay, ColMay, OutMay, KindAt, KindFollows}
 use Rattle.basic_kinds.proofs.Totals.{total_same, total_one, total_none}
 use Rattle.basic_kinds.proofs.Machines.{Machine, Chosen, traces_chosen, one_process, is_in_one, one_is_in, without_one}
-use Rattle.basic_kinds.proofs.Sides.{Even, Ahead, Same, Enters, Leaves, same_back, even_same, ahead_same, even_enters, ahead_leaves, ahead_even, even_lags, ahead_lags, ahead_only}
+use Rattle.basic_kinds.specs.Mirror.Sides.{Even, Ahead}
+use Rattle.basic_kinds.proofs.Sides.{Same, Enters, Leaves, same_back, even_same, ahead_same, even_enters, ahead_leaves, ahead_even, even_lags, ahead_lags, ahead_only}
 use Rattle.basic_kinds.proofs.Crossings.{at_place, crossing_count, row_within, col_within, some_of_row, some_of_col, burst_of, answer, Chooses, first_choice, choice_first, choice_full, choice_has}
 
 -- ---- two symbols in any order

@@ -10,3 +10,5 @@ pub mod Sides
 pub mod Crossings
 pub mod DwKind
 pub mod EachKind
+pub mod MergeSteps
+pub mod RoundSteps

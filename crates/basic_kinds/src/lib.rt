@@ -8,6 +8,11 @@
 mod copy;
 mod kind;
 mod laws;
+mod machine;
+mod machine_rounds;
+mod machine_seq;
+mod machine_turns;
+mod machine_wait;
 mod shape;
 
 pub use copy::{copy_kind, same_kind};

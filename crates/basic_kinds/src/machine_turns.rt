@@ -1,0 +1,205 @@
+//! Machines of the kinds that take one port and then give one: a bit or two say which comes next.
+ghost use Rattle.std.specs.Prelude.{◌≡◌, ◌↔◌, ℕ, IsTrue, false};
+ghost use Rattle.cmd_tree.proofs.Phases.{Grew};
+ghost use Rattle.basic_kinds.specs.declared.kind.Kind.{Kind};
+ghost use Rattle.basic_kinds.specs.KindCounts.{KindAt};
+ghost use Rattle.basic_kinds.specs.Mirror.Machines.{WireCounts, IwireCounts, OnceCounts, MergeCounts, ToggleCounts};
+
+/// A WIRE, full where it has taken a transition that it has not handed on.
+#[derive(Drop)]
+pub struct WireMachine {
+    full: bool,
+}
+
+impl WireMachine {
+    /// An empty WIRE.
+    pub fn new() -> WireMachine
+        ensures { result.full ≡ false }
+    {
+        WireMachine { full: false }
+    }
+
+    /// Whether the port may come.
+    pub fn can(&self, port: u32) -> bool
+        ensures { (c : ℕ → ℕ) → WireCounts self.now c → (IsTrue result ↔ KindAt Kind.Wire c port) }
+    {
+        if self.full { port == 1 } else { port == 0 }
+    }
+
+    /// Takes the step where the port may come, and else changes nothing.
+    pub fn step(&mut self, port: u32) -> bool
+        ensures answer { (c : ℕ → ℕ) → WireCounts self.old c → (IsTrue result ↔ KindAt Kind.Wire c port) }
+        ensures taken { (c d : ℕ → ℕ) → WireCounts self.old c → IsTrue result → Grew c port d
+            → WireCounts self.new d }
+        ensures still { result ≡ false → self.new ≡ self.old }
+    {
+        let can = self.can(port);
+        if can {
+            self.full = !self.full;
+        }
+        can
+    }
+}
+
+/// An IWIRE, full where it has given a transition and not taken it back.
+#[derive(Drop)]
+pub struct IwireMachine {
+    full: bool,
+}
+
+impl IwireMachine {
+    /// An IWIRE that has given nothing.
+    pub fn new() -> IwireMachine
+        ensures { result.full ≡ false }
+    {
+        IwireMachine { full: false }
+    }
+
+    /// Whether the port may come.
+    pub fn can(&self, port: u32) -> bool
+        ensures { (c : ℕ → ℕ) → IwireCounts self.now c → (IsTrue result ↔ KindAt Kind.Iwire c port) }
+    {
+        if self.full { port == 0 } else { port == 1 }
+    }
+
+    /// Takes the step where the port may come, and else changes nothing.
+    pub fn step(&mut self, port: u32) -> bool
+        ensures answer { (c : ℕ → ℕ) → IwireCounts self.old c → (IsTrue result ↔ KindAt Kind.Iwire c port) }
+        ensures taken { (c d : ℕ → ℕ) → IwireCounts self.old c → IsTrue result → Grew c port d
+            → IwireCounts self.new d }
+        ensures still { result ≡ false → self.new ≡ self.old }
+    {
+        let can = self.can(port);
+        if can {
+            self.full = !self.full;
+        }
+        can
+    }
+}
+
+/// A SOURCE or a SINK, spent where its one port has come.
+#[derive(Drop)]
+pub struct OnceMachine {
+    spent: bool,
+}
+
+impl OnceMachine {
+    /// One whose port has not come.
+    pub fn new() -> OnceMachine
+        ensures { result.spent ≡ false }
+    {
+        OnceMachine { spent: false }
+    }
+
+    /// Whether the port may come.
+    pub fn can(&self, port: u32) -> bool
+        ensures { (c : ℕ → ℕ) → OnceCounts self.now c → (IsTrue result ↔ KindAt Kind.Source c port) }
+    {
+        !self.spent && port == 0
+    }
+
+    /// Takes the step where the port may come, and else changes nothing.
+    pub fn step(&mut self, port: u32) -> bool
+        ensures answer { (c : ℕ → ℕ) → OnceCounts self.old c → (IsTrue result ↔ KindAt Kind.Source c port) }
+        ensures taken { (c d : ℕ → ℕ) → OnceCounts self.old c → IsTrue result → Grew c port d
+            → OnceCounts self.new d }
+        ensures still { result ≡ false → self.new ≡ self.old }
+    {
+        let can = self.can(port);
+        if can {
+            self.spent = true;
+        }
+        can
+    }
+}
+
+/// A MERGE, full where it has taken an input and not given its output.
+#[derive(Drop)]
+pub struct MergeMachine {
+    width: u32,
+    full: bool,
+}
+
+impl MergeMachine {
+    /// An empty MERGE with so many inputs.
+    pub fn new(width: u32) -> MergeMachine
+        ensures { result ≡ record { width = width; full = false } }
+    {
+        MergeMachine { width, full: false }
+    }
+
+    /// Whether the port may come.
+    pub fn can(&self, port: u32) -> bool
+        ensures { (c : ℕ → ℕ) → MergeCounts self.now c → (IsTrue result ↔ KindAt (Kind.Merge self.now.width) c port) }
+    {
+        if self.full {
+            port == self.width
+        } else {
+            port < self.width
+        }
+    }
+
+    /// Takes the step where the port may come, and else changes nothing.
+    pub fn step(&mut self, port: u32) -> bool
+        ensures answer { (c : ℕ → ℕ) → MergeCounts self.old c → (IsTrue result ↔ KindAt (Kind.Merge self.old.width) c port) }
+        ensures taken { (c d : ℕ → ℕ) → MergeCounts self.old c → IsTrue result → Grew c port d
+            → MergeCounts self.new d }
+        ensures still { result ≡ false → self.new ≡ self.old }
+        ensures kept { self.new.width ≡ self.old.width }
+    {
+        let can = self.can(port);
+        if can {
+            self.full = !self.full;
+        }
+        can
+    }
+}
+
+/// A TOGGLE, full where it owes an output: the first, or the second where it gave the first last.
+#[derive(Drop)]
+pub struct ToggleMachine {
+    full: bool,
+    second: bool,
+}
+
+impl ToggleMachine {
+    /// An empty TOGGLE that gives its first output first.
+    pub fn new() -> ToggleMachine
+        ensures { result ≡ record { full = false; second = false } }
+    {
+        ToggleMachine {
+            full: false,
+            second: false,
+        }
+    }
+
+    /// Whether the port may come.
+    pub fn can(&self, port: u32) -> bool
+        ensures { (c : ℕ → ℕ) → ToggleCounts self.now c → (IsTrue result ↔ KindAt Kind.Toggle c port) }
+    {
+        if !self.full {
+            port == 0
+        } else if self.second {
+            port == 2
+        } else {
+            port == 1
+        }
+    }
+
+    /// Takes the step where the port may come, and else changes nothing.
+    pub fn step(&mut self, port: u32) -> bool
+        ensures answer { (c : ℕ → ℕ) → ToggleCounts self.old c → (IsTrue result ↔ KindAt Kind.Toggle c port) }
+        ensures taken { (c d : ℕ → ℕ) → ToggleCounts self.old c → IsTrue result → Grew c port d
+            → ToggleCounts self.new d }
+        ensures still { result ≡ false → self.new ≡ self.old }
+    {
+        let can = self.can(port);
+        if can {
+            if self.full {
+                self.second = !self.second;
+            }
+            self.full = !self.full;
+        }
+        can
+    }
+}
