@@ -12,3 +12,6 @@ pub mod DwKind
 pub mod EachKind
 pub mod MergeSteps
 pub mod RoundSteps
+pub mod Search
+pub mod SeqSteps
+pub mod WaitSteps

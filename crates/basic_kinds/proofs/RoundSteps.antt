@@ -125,24 +125,32 @@ module _ (came : List Bool) (turn : Bool) (left : ℕ) (s : ℕ → ℕ) (round 
           (subst (λ x. Leads (to_come turn (get_or came j false)) round x) (sym (g.elsewhere j q))
           (h.each j (subst (λ n. j < n) (length-set came i turn) m)))
 
-pub round_none : (w : ℕ) → RoundOf (replicate w false) false 0 (λ i. 0) 0
-round_none w = record {
-  each = λ i l. subst (λ b. Leads (to_come false b) 0 0) (sym (bit i l)) refl;
-  many = sym (none_count (to_come false) (replicate w false) (λ i l. ap (to_come false) (bit i l)));
-}
-  where
-    bit : (i : ℕ) → i < length (replicate w false) → get_or (replicate w false) i false ≡ false
-    bit i l = get_or-replicate w i false false (subst (λ n. i < n) (length-replicate w false) l)
+-- ---- before any has come
 
-pub round_begun : (w : ℕ) → RoundOf (replicate w false) true w (λ i. 0) 1
-round_begun w = record {
-  each = λ i l. subst (λ b. Leads (to_come true b) 1 0) (sym (bit i l)) refl;
-  many = sym (count_all (to_come true) (replicate w false) (λ i l. ap (to_come true) (bit i l))
-      ∙ length-replicate w false);
-}
-  where
-    bit : (i : ℕ) → i < length (replicate w false) → get_or (replicate w false) i false ≡ false
-    bit i l = get_or-replicate w i false false (subst (λ n. i < n) (length-replicate w false) l)
+module _ (came : List Bool) (turn : Bool) (left w : ℕ) (all : came ≡ replicate w false) where
+  bit : (i : ℕ) → i < length came → get_or came i false ≡ false
+  bit i l = ap (λ xs. get_or xs i false) all ∙ get_or-replicate w i false false (omega (arith, l, size))
+    where
+      size : length came ≡ w
+      size = ap length all ∙ length-replicate w false
+
+  pub round_none : turn ≡ false → left ≡ 0 → RoundOf came turn left (λ i. 0) 0
+  round_none t e = record {
+    each = λ i l. subst (λ b. Leads b 0 0) (sym (test i l)) refl;
+    many = e ∙ sym (none_count (to_come turn) came test);
+  }
+    where
+      test : (i : ℕ) → i < length came → to_come turn (get_or came i false) ≡ false
+      test i l = ap (λ b. to_come turn b) (bit i l) ∙ ap (λ t. to_come t false) t
+
+  pub round_begun : turn ≡ true → left ≡ length came → RoundOf came turn left (λ i. 0) 1
+  round_begun t e = record {
+    each = λ i l. subst (λ b. Leads b 1 0) (sym (test i l)) refl;
+    many = e ∙ sym (count_all (to_come turn) came test);
+  }
+    where
+      test : (i : ℕ) → i < length came → to_come turn (get_or came i false) ≡ true
+      test i l = ap (λ b. to_come turn b) (bit i l) ∙ ap (λ t. to_come t false) t
 
 pub round_same : (came : List Bool) (turn : Bool) (left : ℕ) (s z : ℕ → ℕ) (round next : ℕ)
     → RoundOf came turn left s round → ((i : ℕ) → i < length came → z i ≡ s i) → next ≡ round
