@@ -15,3 +15,4 @@ pub mod RoundSteps
 pub mod Search
 pub mod SeqSteps
 pub mod WaitSteps
+pub mod MachineTraces

@@ -18,4 +18,5 @@ mod shape;
 pub use copy::{copy_kind, same_kind};
 pub use kind::{Kind, ports};
 pub use laws::{kinds_by_counts, rounds_law};
+pub use machine::Machine;
 pub use shape::Shape;

@@ -14,7 +14,7 @@ pub struct WireMachine {
 impl WireMachine {
     /// An empty WIRE.
     pub fn new() -> WireMachine
-        ensures { result.full ≡ false }
+        ensures { WireCounts result (λ p. 0) }
     {
         WireMachine { full: false }
     }
@@ -50,7 +50,7 @@ pub struct IwireMachine {
 impl IwireMachine {
     /// An IWIRE that has given nothing.
     pub fn new() -> IwireMachine
-        ensures { result.full ≡ false }
+        ensures { IwireCounts result (λ p. 0) }
     {
         IwireMachine { full: false }
     }
@@ -86,7 +86,7 @@ pub struct OnceMachine {
 impl OnceMachine {
     /// One whose port has not come.
     pub fn new() -> OnceMachine
-        ensures { result.spent ≡ false }
+        ensures { OnceCounts result (λ p. 0) }
     {
         OnceMachine { spent: false }
     }
@@ -123,7 +123,8 @@ pub struct MergeMachine {
 impl MergeMachine {
     /// An empty MERGE with so many inputs.
     pub fn new(width: u32) -> MergeMachine
-        ensures { result ≡ record { width = width; full = false } }
+        ensures stands { MergeCounts result (λ p. 0) }
+        ensures width { result.width ≡ width }
     {
         MergeMachine { width, full: false }
     }
@@ -165,7 +166,7 @@ pub struct ToggleMachine {
 impl ToggleMachine {
     /// An empty TOGGLE that gives its first output first.
     pub fn new() -> ToggleMachine
-        ensures { result ≡ record { full = false; second = false } }
+        ensures { ToggleCounts result (λ p. 0) }
     {
         ToggleMachine {
             full: false,

@@ -1,8 +1,13 @@
 -- The states of the machines, and the counts and the traces that they stand for.
-use Rattle.std.specs.Prelude.{◌≡◌, ℕ, suc, ◌+◌, ◌<◌, Bool, true, false, not, List, length, slice_index_or}
+use Rattle.std.specs.Prelude.{◌≡◌, ℕ, suc, ◌+◌, ◌<◌, Bool, true, false, not, List, [], ◌∷◌, length, slice_index_or}
 use Rattle.std.specs.Prelude.{Option, Some, None}
 use mathlib.Core.Bool.{beq}
 use Rattle.basic_kinds.specs.Mirror.Sides.{Even, Ahead}
+use Rattle.cmd_tree.specs.Rounds.{counts}
+use Rattle.basic_kinds.specs.declared.kind.Kind.{Kind}
+use Rattle.basic_kinds.specs.declared.kind.Kind.TheVariants as kind
+use Rattle.basic_kinds.specs.declared.machine.Machine.{Machine}
+use Rattle.basic_kinds.specs.declared.machine.Machine.TheVariants.{Wire, Iwire, Source, Sink, Fork, C, Merge, Toggle, Dw, Seq}
 use Rattle.basic_kinds.specs.declared.machine_turns.WireMachine.{WireMachine}
 use Rattle.basic_kinds.specs.declared.machine_turns.IwireMachine.{IwireMachine}
 use Rattle.basic_kinds.specs.declared.machine_turns.OnceMachine.{OnceMachine}
@@ -13,6 +18,8 @@ use Rattle.basic_kinds.specs.declared.machine_rounds.ForkMachine.{ForkMachine}
 use Rattle.basic_kinds.specs.declared.machine_rounds.JoinMachine.{JoinMachine}
 use Rattle.basic_kinds.specs.declared.machine_seq.SeqMachine.{SeqMachine}
 use Rattle.basic_kinds.specs.declared.machine_wait.WaitMachine.{WaitMachine}
+use Rattle.basic_kinds.specs.Kinds.{IsWide}
+use Rattle.basic_kinds.specs.KindTraces.{KindTrace}
 use Rattle.basic_kinds.specs.KindCounts.{grants_in, row_outs, col_outs}
 use Rattle.basic_kinds.specs.Sorts.{how_many}
 use Rattle.basic_kinds.specs.Totals.{total}
@@ -75,3 +82,35 @@ Pends (Some i) n f g = Ahead n f g i
 abbrev pub WaitCounts : WaitMachine → (ℕ → ℕ) → Type 0
 WaitCounts m c = Pends m.row m.shape.rows c (row_outs m.shape c)
     × Pends m.col m.shape.cols (λ j. c (m.shape.rows + j)) (col_outs m.shape c)
+
+-- ---- any machine
+
+abbrev pub kind_of : Machine → Kind
+kind_of (Wire m) = kind.Wire
+kind_of (Iwire m) = kind.Iwire
+kind_of (Source m) = kind.Source
+kind_of (Sink m) = kind.Sink
+kind_of (Fork m) = kind.Fork (length m.outputs.came.items)
+kind_of (C m) = kind.C (length m.inputs.came.items)
+kind_of (Merge m) = kind.Merge m.width
+kind_of (Toggle m) = kind.Toggle
+kind_of (Dw m) = kind.Dw m.shape
+kind_of (Seq m) = kind.Seq (length m.asked.items)
+
+abbrev pub MachineCounts : Machine → (ℕ → ℕ) → Type 0
+MachineCounts (Wire m) c = WireCounts m c
+MachineCounts (Iwire m) c = IwireCounts m c
+MachineCounts (Source m) c = OnceCounts m c
+MachineCounts (Sink m) c = OnceCounts m c
+MachineCounts (Fork m) c = ForkCounts m c
+MachineCounts (C m) c = JoinCounts m c
+MachineCounts (Merge m) c = MergeCounts m c
+MachineCounts (Toggle m) c = ToggleCounts m c
+MachineCounts (Dw m) c = WaitCounts m c
+MachineCounts (Seq m) c = SeqCounts m c
+
+-- a machine stands for a trace of its kind, of which it keeps how often each port has come
+pub record Stands (m : Machine) (t : List ℕ) : Type 0 where
+  pub wide : IsWide (kind_of m)
+  pub trace : KindTrace (kind_of m) t
+  pub counted : MachineCounts m (counts t)
