@@ -9,7 +9,7 @@ ghost use Rattle.basic_kinds.specs.Mirror.Machines.{kind_of, MachineCounts, Stan
 use crate::kind::Kind;
 use crate::machine_rounds::{ForkMachine, JoinMachine};
 use crate::machine_seq::SeqMachine;
-use crate::machine_turns::{IwireMachine, MergeMachine, OnceMachine, ToggleMachine, WireMachine};
+use crate::machine_turns::{MergeMachine, OnceMachine, ToggleMachine, WireMachine};
 use crate::machine_wait::WaitMachine;
 use std::alloc::{AllocError, Global};
 
@@ -18,7 +18,7 @@ use std::alloc::{AllocError, Global};
 #[derive(Drop)]
 pub enum Machine {
     Wire(WireMachine),
-    Iwire(IwireMachine),
+    Iwire(WireMachine),
     Source(OnceMachine),
     Sink(OnceMachine),
     Fork(ForkMachine),
@@ -37,8 +37,8 @@ impl Machine {
         ensures kind { IfOk result (λ machine. kind_of machine ≡ kind.now) }
     {
         Ok(match kind {
-            Kind::Wire => Machine::Wire(WireMachine::new()),
-            Kind::Iwire => Machine::Iwire(IwireMachine::new()),
+            Kind::Wire => Machine::Wire(WireMachine::new(false)),
+            Kind::Iwire => Machine::Iwire(WireMachine::new(true)),
             Kind::Source => Machine::Source(OnceMachine::new()),
             Kind::Sink => Machine::Sink(OnceMachine::new()),
             Kind::Fork(width) => Machine::Fork(ForkMachine::new(alloc, *width)?),

@@ -18,7 +18,7 @@ pub struct Round {
 
 impl Round {
     /// Ports that have not come: all are to come in the first round, or the round 0 is over.
-    pub fn new(alloc: Global, width: u32, begun: bool) -> Result<Round, AllocError>
+    pub(crate) fn new(alloc: Global, width: u32, begun: bool) -> Result<Round, AllocError>
         ensures over { IfOk result (λ it. begun ≡ false → RoundCounts it (λ i. 0) 0) }
         ensures begun { IfOk result (λ it. begun ≡ true → RoundCounts it (λ i. 0) 1) }
         ensures width { IfOk result (λ it. length it.came.items ≡ width) }
@@ -33,14 +33,14 @@ impl Round {
     }
 
     /// How many ports come in a round.
-    pub fn width(&self) -> usize
+    pub(crate) fn width(&self) -> usize
         ensures { result ≡ length self.now.came.items }
     {
         self.came.len()
     }
 
     /// Whether all ports have come.
-    pub fn is_over(&self) -> bool
+    pub(crate) fn is_over(&self) -> bool
         ensures { (s : ℕ → ℕ) (round : ℕ) → RoundCounts self.now s round
             → (IsTrue result ↔ ((i : ℕ) → i < length self.now.came.items → s i ≡ round)) }
     {
@@ -48,7 +48,7 @@ impl Round {
     }
 
     /// Whether the port is still to come.
-    pub fn awaits(&self, place: usize) -> bool
+    pub(crate) fn awaits(&self, place: usize) -> bool
         ensures answer { (s : ℕ → ℕ) (round : ℕ) → RoundCounts self.now s round
             → (IsTrue result ↔ ((place < length self.now.came.items) × (s place < round))) }
         ensures within { IsTrue result → place < length self.now.came.items }
@@ -57,7 +57,7 @@ impl Round {
     }
 
     /// Begins the next round where this one is over, and else changes nothing.
-    pub fn begin(&mut self) -> bool
+    pub(crate) fn begin(&mut self) -> bool
         ensures answer { (s : ℕ → ℕ) (round : ℕ) → RoundCounts self.old s round
             → (IsTrue result ↔ ((i : ℕ) → i < length self.old.came.items → s i ≡ round)) }
         ensures taken { (s : ℕ → ℕ) (round : ℕ) → RoundCounts self.old s round → IsTrue result
@@ -74,7 +74,7 @@ impl Round {
     }
 
     /// Takes the port where it is still to come, and else changes nothing.
-    pub fn take(&mut self, place: usize) -> bool
+    pub(crate) fn take(&mut self, place: usize) -> bool
         ensures answer { (s : ℕ → ℕ) (round : ℕ) → RoundCounts self.old s round
             → (IsTrue result ↔ ((place < length self.old.came.items) × (s place < round))) }
         ensures taken { (s z : ℕ → ℕ) (round : ℕ) → RoundCounts self.old s round → IsTrue result → Grew s place z
@@ -99,7 +99,7 @@ pub struct ForkMachine {
 
 impl ForkMachine {
     /// A FORK with so many outputs, before its input.
-    pub fn new(alloc: Global, width: u32) -> Result<ForkMachine, AllocError>
+    pub(crate) fn new(alloc: Global, width: u32) -> Result<ForkMachine, AllocError>
         ensures stands { IfOk result (λ it. ForkCounts it (λ p. 0)) }
         ensures width { IfOk result (λ it. length it.outputs.came.items ≡ width) }
     {
@@ -108,7 +108,7 @@ impl ForkMachine {
     }
 
     /// Whether the port may come.
-    pub fn can(&self, port: u32) -> bool
+    pub(crate) fn can(&self, port: u32) -> bool
         ensures { (c : ℕ → ℕ) → ForkCounts self.now c
             → (IsTrue result ↔ KindAt (Kind.Fork (length self.now.outputs.came.items)) c port) }
     {
@@ -120,7 +120,7 @@ impl ForkMachine {
     }
 
     /// Takes the step where the port may come, and else changes nothing.
-    pub fn step(&mut self, port: u32) -> bool
+    pub(crate) fn step(&mut self, port: u32) -> bool
         ensures answer { (c : ℕ → ℕ) → ForkCounts self.old c
             → (IsTrue result ↔ KindAt (Kind.Fork (length self.old.outputs.came.items)) c port) }
         ensures taken { (c d : ℕ → ℕ) → ForkCounts self.old c → IsTrue result → Grew c port d
@@ -144,7 +144,7 @@ pub struct JoinMachine {
 
 impl JoinMachine {
     /// A C with so many inputs, before any of them.
-    pub fn new(alloc: Global, width: u32) -> Result<JoinMachine, AllocError>
+    pub(crate) fn new(alloc: Global, width: u32) -> Result<JoinMachine, AllocError>
         ensures stands { IfOk result (λ it. JoinCounts it (λ p. 0)) }
         ensures width { IfOk result (λ it. length it.inputs.came.items ≡ width) }
     {
@@ -153,7 +153,7 @@ impl JoinMachine {
     }
 
     /// Whether the port may come.
-    pub fn can(&self, port: u32) -> bool
+    pub(crate) fn can(&self, port: u32) -> bool
         ensures { (c : ℕ → ℕ) → JoinCounts self.now c
             → (IsTrue result ↔ KindAt (Kind.C (length self.now.inputs.came.items)) c port) }
     {
@@ -166,7 +166,7 @@ impl JoinMachine {
     }
 
     /// Takes the step where the port may come, and else changes nothing.
-    pub fn step(&mut self, port: u32) -> bool
+    pub(crate) fn step(&mut self, port: u32) -> bool
         ensures answer { (c : ℕ → ℕ) → JoinCounts self.old c
             → (IsTrue result ↔ KindAt (Kind.C (length self.old.inputs.came.items)) c port) }
         ensures taken { (c d : ℕ → ℕ) → JoinCounts self.old c → IsTrue result → Grew c port d

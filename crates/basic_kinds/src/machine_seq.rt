@@ -16,7 +16,7 @@ pub struct SeqMachine {
 
 impl SeqMachine {
     /// A SEQ of so many requests, none of which has come, and without a token.
-    pub fn new(alloc: Global, requests: u32) -> Result<SeqMachine, AllocError>
+    pub(crate) fn new(alloc: Global, requests: u32) -> Result<SeqMachine, AllocError>
         ensures stands { IfOk result (λ it. SeqCounts it (λ p. 0)) }
         ensures width { IfOk result (λ it. length it.asked.items ≡ requests) }
     {
@@ -28,7 +28,7 @@ impl SeqMachine {
     }
 
     /// Whether the port may come.
-    pub fn can(&self, port: u32) -> bool
+    pub(crate) fn can(&self, port: u32) -> bool
         ensures answer { (c : ℕ → ℕ) → SeqCounts self.now c
             → (IsTrue result ↔ KindAt (Kind.Seq (length self.now.asked.items)) c port) }
         ensures within { IsTrue result → port < length self.now.asked.items + 1 + length self.now.asked.items }
@@ -52,7 +52,7 @@ impl SeqMachine {
     }
 
     /// Takes the step where the port may come, and else changes nothing.
-    pub fn step(&mut self, port: u32) -> bool
+    pub(crate) fn step(&mut self, port: u32) -> bool
         ensures answer { (c : ℕ → ℕ) → SeqCounts self.old c
             → (IsTrue result ↔ KindAt (Kind.Seq (length self.old.asked.items)) c port) }
         ensures taken { (c d : ℕ → ℕ) → SeqCounts self.old c → IsTrue result → Grew c port d → SeqCounts self.new d }

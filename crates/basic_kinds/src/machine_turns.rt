@@ -1,71 +1,40 @@
 //! Machines of the kinds that take one port and then give one: a bit or two say which comes next.
-ghost use Rattle.std.specs.Prelude.{◌≡◌, ◌↔◌, ℕ, IsTrue, false};
+ghost use Rattle.std.specs.Prelude.{◌≡◌, ◌↔◌, ℕ, IsTrue, false, true};
 ghost use Rattle.cmd_tree.proofs.Phases.{Grew};
 ghost use Rattle.basic_kinds.specs.declared.kind.Kind.{Kind};
 ghost use Rattle.basic_kinds.specs.KindCounts.{KindAt};
 ghost use Rattle.basic_kinds.specs.Mirror.Machines.{WireCounts, IwireCounts, OnceCounts, MergeCounts, ToggleCounts};
 
-/// A WIRE, full where it has taken a transition that it has not handed on.
+/// A WIRE, full where it has taken a transition that it has not handed on. An IWIRE is one that begins full.
 #[derive(Drop)]
 pub struct WireMachine {
     full: bool,
 }
 
 impl WireMachine {
-    /// An empty WIRE.
-    pub fn new() -> WireMachine
-        ensures { WireCounts result (λ p. 0) }
+    /// A WIRE, or where it is full an IWIRE, before any port has come.
+    pub(crate) fn new(full: bool) -> WireMachine
+        ensures wire { full ≡ false → WireCounts result (λ p. 0) }
+        ensures iwire { full ≡ true → IwireCounts result (λ p. 0) }
     {
-        WireMachine { full: false }
+        WireMachine { full }
     }
 
     /// Whether the port may come.
-    pub fn can(&self, port: u32) -> bool
-        ensures { (c : ℕ → ℕ) → WireCounts self.now c → (IsTrue result ↔ KindAt Kind.Wire c port) }
+    pub(crate) fn can(&self, port: u32) -> bool
+        ensures wire { (c : ℕ → ℕ) → WireCounts self.now c → (IsTrue result ↔ KindAt Kind.Wire c port) }
+        ensures iwire { (c : ℕ → ℕ) → IwireCounts self.now c → (IsTrue result ↔ KindAt Kind.Iwire c port) }
     {
         if self.full { port == 1 } else { port == 0 }
     }
 
     /// Takes the step where the port may come, and else changes nothing.
-    pub fn step(&mut self, port: u32) -> bool
-        ensures answer { (c : ℕ → ℕ) → WireCounts self.old c → (IsTrue result ↔ KindAt Kind.Wire c port) }
-        ensures taken { (c d : ℕ → ℕ) → WireCounts self.old c → IsTrue result → Grew c port d
+    pub(crate) fn step(&mut self, port: u32) -> bool
+        ensures wire { (c : ℕ → ℕ) → WireCounts self.old c → (IsTrue result ↔ KindAt Kind.Wire c port) }
+        ensures iwire { (c : ℕ → ℕ) → IwireCounts self.old c → (IsTrue result ↔ KindAt Kind.Iwire c port) }
+        ensures wire_taken { (c d : ℕ → ℕ) → WireCounts self.old c → IsTrue result → Grew c port d
             → WireCounts self.new d }
-        ensures still { result ≡ false → self.new ≡ self.old }
-    {
-        let can = self.can(port);
-        if can {
-            self.full = !self.full;
-        }
-        can
-    }
-}
-
-/// An IWIRE, full where it has given a transition and not taken it back.
-#[derive(Drop)]
-pub struct IwireMachine {
-    full: bool,
-}
-
-impl IwireMachine {
-    /// An IWIRE that has given nothing.
-    pub fn new() -> IwireMachine
-        ensures { IwireCounts result (λ p. 0) }
-    {
-        IwireMachine { full: false }
-    }
-
-    /// Whether the port may come.
-    pub fn can(&self, port: u32) -> bool
-        ensures { (c : ℕ → ℕ) → IwireCounts self.now c → (IsTrue result ↔ KindAt Kind.Iwire c port) }
-    {
-        if self.full { port == 0 } else { port == 1 }
-    }
-
-    /// Takes the step where the port may come, and else changes nothing.
-    pub fn step(&mut self, port: u32) -> bool
-        ensures answer { (c : ℕ → ℕ) → IwireCounts self.old c → (IsTrue result ↔ KindAt Kind.Iwire c port) }
-        ensures taken { (c d : ℕ → ℕ) → IwireCounts self.old c → IsTrue result → Grew c port d
+        ensures iwire_taken { (c d : ℕ → ℕ) → IwireCounts self.old c → IsTrue result → Grew c port d
             → IwireCounts self.new d }
         ensures still { result ≡ false → self.new ≡ self.old }
     {
@@ -85,21 +54,21 @@ pub struct OnceMachine {
 
 impl OnceMachine {
     /// One whose port has not come.
-    pub fn new() -> OnceMachine
+    pub(crate) fn new() -> OnceMachine
         ensures { OnceCounts result (λ p. 0) }
     {
         OnceMachine { spent: false }
     }
 
     /// Whether the port may come.
-    pub fn can(&self, port: u32) -> bool
+    pub(crate) fn can(&self, port: u32) -> bool
         ensures { (c : ℕ → ℕ) → OnceCounts self.now c → (IsTrue result ↔ KindAt Kind.Source c port) }
     {
         !self.spent && port == 0
     }
 
     /// Takes the step where the port may come, and else changes nothing.
-    pub fn step(&mut self, port: u32) -> bool
+    pub(crate) fn step(&mut self, port: u32) -> bool
         ensures answer { (c : ℕ → ℕ) → OnceCounts self.old c → (IsTrue result ↔ KindAt Kind.Source c port) }
         ensures taken { (c d : ℕ → ℕ) → OnceCounts self.old c → IsTrue result → Grew c port d
             → OnceCounts self.new d }
@@ -122,7 +91,7 @@ pub struct MergeMachine {
 
 impl MergeMachine {
     /// An empty MERGE with so many inputs.
-    pub fn new(width: u32) -> MergeMachine
+    pub(crate) fn new(width: u32) -> MergeMachine
         ensures stands { MergeCounts result (λ p. 0) }
         ensures width { result.width ≡ width }
     {
@@ -130,7 +99,7 @@ impl MergeMachine {
     }
 
     /// Whether the port may come.
-    pub fn can(&self, port: u32) -> bool
+    pub(crate) fn can(&self, port: u32) -> bool
         ensures { (c : ℕ → ℕ) → MergeCounts self.now c → (IsTrue result ↔ KindAt (Kind.Merge self.now.width) c port) }
     {
         if self.full {
@@ -141,7 +110,7 @@ impl MergeMachine {
     }
 
     /// Takes the step where the port may come, and else changes nothing.
-    pub fn step(&mut self, port: u32) -> bool
+    pub(crate) fn step(&mut self, port: u32) -> bool
         ensures answer { (c : ℕ → ℕ) → MergeCounts self.old c → (IsTrue result ↔ KindAt (Kind.Merge self.old.width) c port) }
         ensures taken { (c d : ℕ → ℕ) → MergeCounts self.old c → IsTrue result → Grew c port d
             → MergeCounts self.new d }
@@ -165,7 +134,7 @@ pub struct ToggleMachine {
 
 impl ToggleMachine {
     /// An empty TOGGLE that gives its first output first.
-    pub fn new() -> ToggleMachine
+    pub(crate) fn new() -> ToggleMachine
         ensures { ToggleCounts result (λ p. 0) }
     {
         ToggleMachine {
@@ -175,7 +144,7 @@ impl ToggleMachine {
     }
 
     /// Whether the port may come.
-    pub fn can(&self, port: u32) -> bool
+    pub(crate) fn can(&self, port: u32) -> bool
         ensures { (c : ℕ → ℕ) → ToggleCounts self.now c → (IsTrue result ↔ KindAt Kind.Toggle c port) }
     {
         if !self.full {
@@ -188,7 +157,7 @@ impl ToggleMachine {
     }
 
     /// Takes the step where the port may come, and else changes nothing.
-    pub fn step(&mut self, port: u32) -> bool
+    pub(crate) fn step(&mut self, port: u32) -> bool
         ensures answer { (c : ℕ → ℕ) → ToggleCounts self.old c → (IsTrue result ↔ KindAt Kind.Toggle c port) }
         ensures taken { (c d : ℕ → ℕ) → ToggleCounts self.old c → IsTrue result → Grew c port d
             → ToggleCounts self.new d }

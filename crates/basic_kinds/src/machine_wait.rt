@@ -19,7 +19,7 @@ pub struct WaitMachine {
 
 impl WaitMachine {
     /// A DW of this shape, where nothing has come.
-    pub fn new(alloc: Global, shape: &Shape) -> Result<WaitMachine, AllocError>
+    pub(crate) fn new(alloc: Global, shape: &Shape) -> Result<WaitMachine, AllocError>
         ensures stands { IfOk result (λ it. WaitCounts it (λ p. 0)) }
         ensures shape { IfOk result (λ it. it.shape ≡ shape.now) }
     {
@@ -32,7 +32,7 @@ impl WaitMachine {
     }
 
     /// Whether the port may come.
-    pub fn can(&self, port: u32) -> bool
+    pub(crate) fn can(&self, port: u32) -> bool
         ensures { (c : ℕ → ℕ) → WaitCounts self.now c → (IsTrue result ↔ KindAt (Kind.Dw self.now.shape) c port) }
     {
         let rows = self.shape.rows;
@@ -47,7 +47,7 @@ impl WaitMachine {
     }
 
     /// Takes the step where the port may come, and else changes nothing.
-    pub fn step(&mut self, port: u32) -> bool
+    pub(crate) fn step(&mut self, port: u32) -> bool
         ensures answer { (c : ℕ → ℕ) → WaitCounts self.old c → (IsTrue result ↔ KindAt (Kind.Dw self.old.shape) c port) }
         ensures taken { (c d : ℕ → ℕ) → WaitCounts self.old c → IsTrue result → Grew c port d → WaitCounts self.new d }
         ensures still { result ≡ false → self.new ≡ self.old }

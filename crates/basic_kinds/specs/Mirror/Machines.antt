@@ -9,7 +9,6 @@ use Rattle.basic_kinds.specs.declared.kind.Kind.TheVariants as kind
 use Rattle.basic_kinds.specs.declared.machine.Machine.{Machine}
 use Rattle.basic_kinds.specs.declared.machine.Machine.TheVariants.{Wire, Iwire, Source, Sink, Fork, C, Merge, Toggle, Dw, Seq}
 use Rattle.basic_kinds.specs.declared.machine_turns.WireMachine.{WireMachine}
-use Rattle.basic_kinds.specs.declared.machine_turns.IwireMachine.{IwireMachine}
 use Rattle.basic_kinds.specs.declared.machine_turns.OnceMachine.{OnceMachine}
 use Rattle.basic_kinds.specs.declared.machine_turns.MergeMachine.{MergeMachine}
 use Rattle.basic_kinds.specs.declared.machine_turns.ToggleMachine.{ToggleMachine}
@@ -34,8 +33,9 @@ Leads false f g = f ≡ g
 abbrev pub WireCounts : WireMachine → (ℕ → ℕ) → Type 0
 WireCounts m c = Leads m.full (c 0) (c 1)
 
-abbrev pub IwireCounts : IwireMachine → (ℕ → ℕ) → Type 0
-IwireCounts m c = Leads m.full (c 1) (c 0)
+-- an IWIRE began full
+abbrev pub IwireCounts : WireMachine → (ℕ → ℕ) → Type 0
+IwireCounts m c = Leads m.full (suc (c 0)) (c 1)
 
 abbrev pub OnceCounts : OnceMachine → (ℕ → ℕ) → Type 0
 OnceCounts m c = Leads m.spent (c 0) 0

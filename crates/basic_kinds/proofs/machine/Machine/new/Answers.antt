@@ -1,4 +1,4 @@
-use Rattle.std.proofs.Common.{◌∙◌, sym, ap}
+use Rattle.std.proofs.Common.{◌∙◌, refl, sym, ap}
 use Rattle.basic_kinds.specs.declared.kind.Kind.TheVariants.{Fork, C, Merge, Dw, Seq}
 use Rattle.basic_kinds.proofs.MachineTraces.{begins}
 use Rattle.basic_kinds.proofs.machine.Machine.new.Goals as goal
@@ -6,8 +6,8 @@ use Rattle.basic_kinds.proofs.machine.Machine.new.Goals.{in-Wire, in-Iwire, in-S
 
 pub returns-clause-stands : goal.returns-clause-stands
 returns-clause-stands c = elim c.match-kind.branch [
-  | in-Wire w ↦ begins c.match-kind.result _ c.args.kind.now c.requires.wide w.result-is w.in-Wire.is w.new.ensures
-  | in-Iwire w ↦ begins c.match-kind.result _ c.args.kind.now c.requires.wide w.result-is w.in-Iwire.is w.new-in-Iwire.ensures
+  | in-Wire w ↦ begins c.match-kind.result _ c.args.kind.now c.requires.wide w.result-is w.in-Wire.is (w.new.ensures.wire refl)
+  | in-Iwire w ↦ begins c.match-kind.result _ c.args.kind.now c.requires.wide w.result-is w.in-Iwire.is (w.new-in-Iwire.ensures.iwire refl)
   | in-Source w ↦ begins c.match-kind.result _ c.args.kind.now c.requires.wide w.result-is w.in-Source.is w.new-in-Source.ensures
   | in-Sink w ↦ begins c.match-kind.result _ c.args.kind.now c.requires.wide w.result-is w.in-Sink.is w.new-in-Sink.ensures
   | in-Fork+in_ok-new-in-Fork w ↦ let e = w.in_ok-new-in-Fork.ensures in
