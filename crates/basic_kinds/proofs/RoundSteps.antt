@@ -1,8 +1,7 @@
 -- The ports of a round: which are still to come, and how many.
-use Rattle.std.proofs.Common.{◌≡◌, ◌≢◌, ◌↔◌, ◌⊎◌, inl, inr, ⊎_elim, ℕ, zero, suc, ◌+◌, ◌-◌, ◌<◌, ◌≤◌, Bool, true, false, true≢false, not, if◌then◌else◌, List, [], ◌∷◌, length, get_or, set, replicate, refl, sym, ap, ◌∙◌, subst, arith, length-set, get_or-set_same, get_or-set_other}
+use Rattle.std.proofs.Common.{◌≡◌, ◌↔◌, ◌⊎◌, inl, inr, ⊎_elim, ℕ, zero, suc, ◌+◌, ◌-◌, ◌<◌, ◌≤◌, Bool, true, false, true≢false, not, if◌then◌else◌, List, [], ◌∷◌, length, get_or, set, replicate, refl, sym, ap, ◌∙◌, subst, arith, length-set, get_or-set_same, get_or-set_other}
 use Rattle.std.proofs.lemmas.Bool.{cases_eq}
 use Rattle.std.proofs.lemmas.List.{get_or-replicate, length-replicate}
-use mathlib.Core.Bool.{beq}
 use Rattle.cmd_tree.proofs.Phases.{Grew}
 use Rattle.basic_kinds.specs.declared.kind.Kind.TheVariants.{Fork, C}
 use Rattle.basic_kinds.specs.KindCounts.{KindAt}
@@ -178,8 +177,12 @@ fork_output n c p d = (forth, back)
     same = ap c (omega (arith, d))
 
     forth : (p - 1 < n) × (c (1 + (p - 1)) < c 0) → KindAt (Fork n) c p
-    forth h = inr (omega (arith, d), omega (arith, d, h.0), λ i l. let e : i ≡ 0 = omega arith in
-        omega (arith, h.1, same, ap c e))
+    forth h = inr (
+      omega (arith, d),
+      omega (arith, d, h.0),
+      λ i l. let e : i ≡ 0 = omega arith in
+          omega (arith, h.1, same, ap c e),
+    )
 
     back : KindAt (Fork n) c p → (p - 1 < n) × (c (1 + (p - 1)) < c 0)
     back (inl h) = absurd (d (omega (arith, h.0)))

@@ -1,5 +1,5 @@
 -- A search by halves finds each crossing of a shape.
-use Rattle.std.proofs.Common.{◌≡◌, ◌↔◌, ◌⊎◌, inl, inr, ⊎_elim, ℕ, zero, suc, ◌<◌, ◌≤◌, Bool, true, false, true≢false, cond, ◌||◌, ◌&&◌, nat_lt, nat_eq, List, [], ◌∷◌, length, IsTrue, refl, sym, ap, ◌∙◌, arith, eqb-true, ltb-true, eq-eqb, get_or, Ok, Err, Ordering, Less, Equal, Greater, nat_cmp}
+use Rattle.std.proofs.Common.{◌≡◌, ◌↔◌, ◌⊎◌, inl, inr, ⊎_elim, ℕ, zero, suc, ◌<◌, ◌≤◌, Bool, true, false, true≢false, ◌||◌, ◌&&◌, nat_lt, nat_eq, List, [], ◌∷◌, length, IsTrue, refl, sym, ap, ◌∙◌, arith, eqb-true, ltb-true, Ok, Err, Ordering, Less, Equal, Greater, nat_cmp}
 use Rattle.std.specs.Prelude.{Result}
 use Rattle.std.specs.Result.{is_ok}
 use Rattle.std.specs.Ordering.{ordering_then, ordering_index}

@@ -1,5 +1,5 @@
 -- A SEQ's machine at its start and after a grant.
-use Rattle.std.proofs.Common.{◌≡◌, ◌⊎◌, inl, inr, ⊎_elim, ℕ, suc, ◌+◌, ◌-◌, ◌<◌, ◌≤◌, Bool, true, false, List, length, get_or, set, replicate, refl, sym, ap, ◌∙◌, subst, arith, length-set, get_or-set_same, get_or-set_other}
+use Rattle.std.proofs.Common.{◌≡◌, inl, inr, ⊎_elim, ℕ, ◌+◌, ◌-◌, ◌<◌, ◌≤◌, Bool, false, List, length, get_or, set, replicate, refl, sym, ap, subst, arith, length-set, get_or-set_same, get_or-set_other}
 use Rattle.std.proofs.lemmas.Bool.{cases_eq}
 use Rattle.std.proofs.lemmas.List.{get_or-replicate, length-replicate}
 use Rattle.cmd_tree.proofs.Phases.{Grew}
@@ -7,8 +7,8 @@ use Rattle.basic_kinds.specs.declared.kind.Kind.TheVariants.{Seq}
 use Rattle.basic_kinds.specs.KindCounts.{KindAt, GrantMay, grants_in}
 use Rattle.basic_kinds.specs.Mirror.Machines.{Leads, SeqOf}
 use Rattle.basic_kinds.proofs.Totals.{total_none}
-use Rattle.basic_kinds.proofs.SmallKinds.{row_grows, row_stays}
-use Rattle.basic_kinds.proofs.RoundSteps.{leads_by, leads_true}
+use Rattle.basic_kinds.proofs.SmallKinds.{row_grows}
+use Rattle.basic_kinds.proofs.RoundSteps.{leads_by}
 
 made : (k : ℕ) (asked : List Bool) (token : Bool) (d : ℕ → ℕ) → length asked ≡ k
     → ((i : ℕ) → i < k → Leads (get_or asked i false) (d i) (d (k + 1 + i)))

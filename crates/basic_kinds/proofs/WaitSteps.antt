@@ -1,15 +1,15 @@
 -- The machine of a decision wait: which port may come, and its state after it.
-use Rattle.std.proofs.Common.{◌≡◌, ◌↔◌, ◌⊎◌, inl, inr, ⊎_elim, ℕ, suc, ◌+◌, ◌-◌, ◌<◌, ◌≤◌, Bool, true, false, true≢false, length, IsTrue, Some, None, refl, sym, ap, ◌∙◌, subst, arith}
+use Rattle.std.proofs.Common.{◌≡◌, ◌↔◌, inl, inr, ℕ, ◌+◌, ◌-◌, ◌<◌, ◌≤◌, Bool, length, IsTrue, Some, None, refl, sym, ap, subst, arith}
 use Rattle.std.specs.Prelude.{Option}
 use Rattle.cmd_tree.proofs.Phases.{Grew}
 use Rattle.basic_kinds.specs.declared.shape.Shape.{Shape}
 use Rattle.basic_kinds.specs.declared.kind.Kind.TheVariants.{Dw}
-use Rattle.basic_kinds.specs.KindCounts.{Crosses, row_of, col_of, row_outs, col_outs, RowMay, ColMay, OutMay, KindAt}
-use Rattle.basic_kinds.specs.Mirror.Sides.{Even, Ahead}
+use Rattle.basic_kinds.specs.KindCounts.{Crosses, row_of, col_of, row_outs, col_outs, RowMay, ColMay, KindAt}
+use Rattle.basic_kinds.specs.Mirror.Sides.{Ahead}
 use Rattle.basic_kinds.specs.Mirror.Machines.{Pends}
 use Rattle.basic_kinds.proofs.Sides.{Same, even_same, ahead_same, even_enters, ahead_leaves, even_lags, ahead_lags, ahead_only}
 use Rattle.basic_kinds.proofs.Crossings.{row_within, col_within}
-use Rattle.basic_kinds.proofs.DwKind.{cols_in, RowsEven, ColsEven, RowAhead, ColAhead, row_enters, cols_stay, col_enters, rows_stay, row_leaves, col_leaves}
+use Rattle.basic_kinds.proofs.DwKind.{cols_in, row_enters, cols_stay, col_enters, rows_stay, row_leaves, col_leaves}
 
 -- ---- the side that is pending
 

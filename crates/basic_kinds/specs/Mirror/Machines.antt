@@ -1,5 +1,5 @@
 -- The states of the machines, and the counts and the traces that they stand for.
-use Rattle.std.specs.Prelude.{◌≡◌, ℕ, suc, ◌+◌, ◌<◌, Bool, true, false, not, List, [], ◌∷◌, length, slice_index_or}
+use Rattle.std.specs.Prelude.{◌≡◌, ℕ, suc, ◌+◌, ◌<◌, Bool, true, false, not, List, length, slice_index_or}
 use Rattle.std.specs.Prelude.{Option, Some, None}
 use mathlib.Core.Bool.{beq}
 use Rattle.basic_kinds.specs.Mirror.Sides.{Even, Ahead}

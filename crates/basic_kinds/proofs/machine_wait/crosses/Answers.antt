@@ -1,4 +1,4 @@
-use Rattle.std.proofs.Common.{◌≡◌, ◌↔◌, ◌+◌, List, length, IsTrue, sym, subst}
+use Rattle.std.proofs.Common.{◌↔◌, length, IsTrue, sym, subst}
 use Rattle.std.specs.List.Sorted.{IsBinarySearchResult, IsSearchInRange}
 use Rattle.basic_kinds.specs.KindCounts.{Crosses}
 use Rattle.basic_kinds.proofs.Search.{order, search_finds}

@@ -1,4 +1,4 @@
-use Rattle.std.proofs.Common.{◌≡◌, ◌∙◌, ℕ, suc, sym, ap, subst, refl, length, arith}
+use Rattle.std.proofs.Common.{◌∙◌, suc, sym, ap, subst, refl, length, arith}
 use Rattle.cmd_tree.proofs.Phases.{Grew}
 use Rattle.basic_kinds.proofs.RoundSteps.{join_input, join_output, round_same, chain}
 use Rattle.basic_kinds.proofs.machine_rounds.JoinMachine.step.Goals as goal

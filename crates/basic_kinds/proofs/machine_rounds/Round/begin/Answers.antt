@@ -1,4 +1,4 @@
-use Rattle.std.proofs.Common.{suc, not, sym, subst, length, ◌≡◌, ◌∙◌, rules}
+use Rattle.std.proofs.Common.{suc, not, sym, subst, length, ◌≡◌, rules}
 use Rattle.basic_kinds.specs.Mirror.Machines.{RoundOf}
 use Rattle.basic_kinds.proofs.RoundSteps.{round_begins, over_round}
 use Rattle.basic_kinds.proofs.machine_rounds.Round.begin.Goals as goal

@@ -1,4 +1,4 @@
-use Rattle.std.proofs.Common.{◌≡◌, ◌∙◌, ℕ, true≢false, length, sym, rules}
+use Rattle.std.proofs.Common.{◌≡◌, ◌∙◌, true≢false, length, sym, rules}
 use Rattle.basic_kinds.proofs.RoundSteps.{round_none, round_begun}
 use Rattle.basic_kinds.proofs.machine_rounds.Round.new.Goals as goal
 use Rattle.basic_kinds.proofs.machine_rounds.Round.new.Goals.{then-begun, else-begun}
