@@ -2,7 +2,8 @@
 //!
 //! `specs/KindTraces.antt` has the command of each kind, which says its traces. `specs/KindCounts.antt` says by how
 //! often each port has come which port may come next. That this decides the same traces is the law
-//! `kinds_by_counts`, by which networks of components are proved correct.
+//! `kinds_by_counts`, by which networks of components are proved correct. A `Machine` runs a component: it keeps what
+//! of the counts decides, and answers which port may come next.
 #![tactic(auto)]
 
 mod copy;

@@ -17,7 +17,7 @@ pub struct Round {
 }
 
 impl Round {
-    /// Ports that have not come: all are to come in the first round, or the round 0 is over.
+    /// Ports of which none has come: all are to come in a round that has begun, or none before it begins.
     pub(crate) fn new(alloc: Global, width: u32, begun: bool) -> Result<Round, AllocError>
         ensures over { IfOk result (λ it. begun ≡ false → RoundCounts it (λ i. 0) 0) }
         ensures begun { IfOk result (λ it. begun ≡ true → RoundCounts it (λ i. 0) 1) }
@@ -85,6 +85,7 @@ impl Round {
         let can = self.awaits(place);
         if can {
             self.came[place] = self.turn;
+            // Some port was left, since this one was.
             self.left = self.left.saturating_sub(1);
         }
         can

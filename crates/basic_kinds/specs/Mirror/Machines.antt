@@ -1,6 +1,5 @@
 -- The states of the machines, and the counts and the traces that they stand for.
-use Rattle.std.specs.Prelude.{◌≡◌, ℕ, suc, ◌+◌, ◌<◌, Bool, true, false, not, List, length, slice_index_or}
-use Rattle.std.specs.Prelude.{Option, Some, None}
+use Rattle.std.specs.Prelude.{◌≡◌, ℕ, suc, ◌+◌, ◌<◌, Bool, true, false, not, List, length, slice_index_or, Option, Some, None}
 use mathlib.Core.Bool.{beq}
 use Rattle.basic_kinds.specs.Mirror.Sides.{Even, Ahead}
 use Rattle.cmd_tree.specs.Rounds.{counts}
@@ -50,7 +49,7 @@ ToggleCounts m c = Leads m.full (c 0) (c 1 + c 2) × Leads m.second (c 1) (c 2)
 abbrev pub to_come : Bool → Bool → Bool
 to_come turn bit = not (beq bit turn)
 
--- s says how often each port has come, and round how often each that is not still to come
+-- s says how often each port has come: round times, or once less where it is still to come
 pub record RoundOf (came : List Bool) (turn : Bool) (left : ℕ) (s : ℕ → ℕ) (round : ℕ) : Type 0 where
   pub each : (i : ℕ) → i < length came → Leads (to_come turn (slice_index_or came i false)) round (s i)
   pub many : left ≡ how_many (to_come turn) came
@@ -83,7 +82,7 @@ abbrev pub WaitCounts : WaitMachine → (ℕ → ℕ) → Type 0
 WaitCounts m c = Pends m.row m.shape.rows c (row_outs m.shape c)
     × Pends m.col m.shape.cols (λ j. c (m.shape.rows + j)) (col_outs m.shape c)
 
--- ---- any machine
+-- ---- any machine: its kind, the counts that it stands for, and the traces
 
 abbrev pub kind_of : Machine → Kind
 kind_of (Wire m) = kind.Wire
@@ -109,7 +108,7 @@ MachineCounts (Toggle m) c = ToggleCounts m c
 MachineCounts (Dw m) c = WaitCounts m c
 MachineCounts (Seq m) c = SeqCounts m c
 
--- a machine stands for a trace of its kind, of which it keeps how often each port has come
+-- a machine stands for the traces of its kind that have the counts of its state
 pub record Stands (m : Machine) (t : List ℕ) : Type 0 where
   pub wide : IsWide (kind_of m)
   pub trace : KindTrace (kind_of m) t
