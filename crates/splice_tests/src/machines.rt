@@ -8,12 +8,7 @@ use std::process::Abort;
 use std::test::Fail;
 
 /// Offers the ports in order to a machine of the kind, each with the answer that is wanted.
-fn offers(
-    rt: &impl Abort,
-    alloc: Global,
-    kind: &Kind,
-    ports: &[(u32, bool)],
-) -> Result<(), Fail>
+fn offers(rt: &impl Abort, alloc: Global, kind: &Kind, ports: &[(u32, bool)]) -> Result<(), Fail>
     requires { IsWellFormed kind.now }
 {
     let mut machine = Machine::new(alloc, kind)?;
@@ -30,21 +25,50 @@ fn machines_of_one_port_at_a_time(rt: HostRuntime) -> Result<(), Fail> {
     let rows: [(Kind, &[(u32, bool)]); 6] = [
         (
             Kind::Wire,
-            &[(1, false), (0, true), (0, false), (1, true), (2, false), (0, true)],
+            &[
+                (1, false),
+                (0, true),
+                (0, false),
+                (1, true),
+                (2, false),
+                (0, true),
+            ],
         ),
         (
             Kind::Iwire,
-            &[(0, false), (1, true), (1, false), (0, true), (2, false), (1, true)],
+            &[
+                (0, false),
+                (1, true),
+                (1, false),
+                (0, true),
+                (2, false),
+                (1, true),
+            ],
         ),
         (Kind::Source, &[(1, false), (0, true), (0, false)]),
         (Kind::Sink, &[(1, false), (0, true), (0, false)]),
         (
             Kind::Merge(3),
-            &[(3, false), (2, true), (0, false), (3, true), (4, false), (0, true)],
+            &[
+                (3, false),
+                (2, true),
+                (0, false),
+                (3, true),
+                (4, false),
+                (0, true),
+            ],
         ),
         (
             Kind::Toggle,
-            &[(1, false), (0, true), (2, false), (1, true), (0, true), (1, false), (2, true)],
+            &[
+                (1, false),
+                (0, true),
+                (2, false),
+                (1, true),
+                (0, true),
+                (1, false),
+                (2, true),
+            ],
         ),
     ];
     for (kind, ports) in &rows {
@@ -58,15 +82,43 @@ fn machines_of_rounds_and_requests(rt: HostRuntime) -> Result<(), Fail> {
     let rows: [(Kind, &[(u32, bool)]); 3] = [
         (
             Kind::Fork(2),
-            &[(1, false), (0, true), (2, true), (2, false), (0, false), (1, true), (0, true), (2, true)],
+            &[
+                (1, false),
+                (0, true),
+                (2, true),
+                (2, false),
+                (0, false),
+                (1, true),
+                (0, true),
+                (2, true),
+            ],
         ),
         (
             Kind::C(2),
-            &[(2, false), (1, true), (1, false), (2, false), (0, true), (2, true), (3, false), (0, true)],
+            &[
+                (2, false),
+                (1, true),
+                (1, false),
+                (2, false),
+                (0, true),
+                (2, true),
+                (3, false),
+                (0, true),
+            ],
         ),
         (
             Kind::Seq(2),
-            &[(3, false), (0, true), (3, false), (2, true), (2, false), (4, false), (3, true), (5, false), (1, true)],
+            &[
+                (3, false),
+                (0, true),
+                (3, false),
+                (2, true),
+                (2, false),
+                (4, false),
+                (3, true),
+                (5, false),
+                (1, true),
+            ],
         ),
     ];
     for (kind, ports) in &rows {
