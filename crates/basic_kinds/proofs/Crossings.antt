@@ -22,11 +22,11 @@ use Rattle.basic_kinds.proofs.SmallKinds.{has_front, has_back}
 abbrev pub at_place : List (ℕ × ℕ) → ℕ → ℕ × ℕ
 at_place ps x = slice_index_or ps x (0, 0)
 
-and_left : (a b : Bool) → IsTrue (a && b) → IsTrue a
+pub and_left : (a b : Bool) → IsTrue (a && b) → IsTrue a
 and_left true b h = refl
 and_left false b h = absurd (true≢false (sym h))
 
-and_right : (a b : Bool) → IsTrue (a && b) → IsTrue b
+pub and_right : (a b : Bool) → IsTrue (a && b) → IsTrue b
 and_right true b h = h
 and_right false b h = absurd (true≢false (sym h))
 

@@ -20,7 +20,8 @@ use Rattle.basic_kinds.specs.Totals.{total}
 use Rattle.basic_kinds.specs.KindCounts.{row_of, col_of, row_outs, col_outs, RowMay, ColMay, OutMay, KindAt, KindFollows}
 use Rattle.basic_kinds.proofs.Totals.{total_same, total_one, total_none}
 use Rattle.basic_kinds.proofs.Machines.{Machine, Chosen, traces_chosen, one_process, is_in_one, one_is_in, without_one}
-use Rattle.basic_kinds.proofs.Sides.{Even, Ahead, Same, Enters, Leaves, same_back, even_same, ahead_same, even_enters, ahead_leaves, ahead_even, even_lags, ahead_lags, ahead_only}
+use Rattle.basic_kinds.specs.Mirror.Sides.{Even, Ahead}
+use Rattle.basic_kinds.proofs.Sides.{Same, Enters, Leaves, same_back, even_same, ahead_same, even_enters, ahead_leaves, ahead_even, even_lags, ahead_lags, ahead_only}
 use Rattle.basic_kinds.proofs.Crossings.{at_place, crossing_count, row_within, col_within, some_of_row, some_of_col, burst_of, answer, Chooses, first_choice, choice_first, choice_full, choice_has}
 
 -- ---- two symbols in any order
@@ -51,13 +52,13 @@ pub data Spot : Type 0 where
   Both : ℕ → Spot
 
 module _ (s : Shape) where
-  abbrev first_out : ℕ
+  abbrev pub first_out : ℕ
   first_out = s.rows + s.cols
 
-  abbrev row_port : ℕ → ℕ
+  abbrev pub row_port : ℕ → ℕ
   row_port x = row_of s x
 
-  abbrev col_port : ℕ → ℕ
+  abbrev pub col_port : ℕ → ℕ
   col_port x = s.rows + col_of s x
 
   abbrev body : TSeq
@@ -185,10 +186,10 @@ module _ (s : Shape) where
 
   -- ---- how the counts of the rows and the columns change
 
-  abbrev cols_in : (ℕ → ℕ) → ℕ → ℕ
+  abbrev pub cols_in : (ℕ → ℕ) → ℕ → ℕ
   cols_in c j = c (s.rows + j)
 
-  abbrev outs_by : (ℕ → ℕ) → (ℕ → ℕ) → ℕ → ℕ
+  abbrev pub outs_by : (ℕ → ℕ) → (ℕ → ℕ) → ℕ → ℕ
   outs_by t c i = total (crossing_count s) (λ x. if t x == i then c (first_out + x) else 0)
 
   outs_same : (t c d : ℕ → ℕ) (a : ℕ) → a < first_out → Grew c a d → (i : ℕ) → outs_by t d i ≡ outs_by t c i
@@ -218,13 +219,13 @@ module _ (s : Shape) where
       (g.elsewhere (first_out + y) (λ z. e (omega arith))))
       (cases_eq y x))
 
-  abbrev Rows : ((ℕ → (ℕ → ℕ) → (ℕ → ℕ) → (ℕ → ℕ) → (ℕ → ℕ) → Type 0)) → (ℕ → ℕ) → (ℕ → ℕ) → Type 0
+  abbrev pub Rows : ((ℕ → (ℕ → ℕ) → (ℕ → ℕ) → (ℕ → ℕ) → (ℕ → ℕ) → Type 0)) → (ℕ → ℕ) → (ℕ → ℕ) → Type 0
   Rows R c d = R s.rows c (row_outs s c) d (row_outs s d)
 
-  abbrev Cols : ((ℕ → (ℕ → ℕ) → (ℕ → ℕ) → (ℕ → ℕ) → (ℕ → ℕ) → Type 0)) → (ℕ → ℕ) → (ℕ → ℕ) → Type 0
+  abbrev pub Cols : ((ℕ → (ℕ → ℕ) → (ℕ → ℕ) → (ℕ → ℕ) → (ℕ → ℕ) → Type 0)) → (ℕ → ℕ) → (ℕ → ℕ) → Type 0
   Cols R c d = R s.cols (cols_in c) (col_outs s c) (cols_in d) (col_outs s d)
 
-  row_enters : (c d : ℕ → ℕ) (i : ℕ) → i < s.rows → Grew c i d → Rows (λ n f g h k. Enters n f g h k i) c d
+  pub row_enters : (c d : ℕ → ℕ) (i : ℕ) → i < s.rows → Grew c i d → Rows (λ n f g h k. Enters n f g h k i) c d
   row_enters c d i l g = record {
     within = l;
     here = g.here;
@@ -232,13 +233,13 @@ module _ (s : Shape) where
     second = λ h m. outs_same (row_of s) c d i (omega arith) g h;
   }
 
-  cols_stay : (c d : ℕ → ℕ) (i : ℕ) → i < s.rows → Grew c i d → Cols Same c d
+  pub cols_stay : (c d : ℕ → ℕ) (i : ℕ) → i < s.rows → Grew c i d → Cols Same c d
   cols_stay c d i l g = record {
     first = λ j m. g.elsewhere (s.rows + j) (λ e. omega arith);
     second = λ j m. outs_same (col_of s) c d i (omega arith) g j;
   }
 
-  col_enters : (c d : ℕ → ℕ) (j : ℕ) → j < s.cols → Grew c (s.rows + j) d
+  pub col_enters : (c d : ℕ → ℕ) (j : ℕ) → j < s.cols → Grew c (s.rows + j) d
       → Cols (λ n f g h k. Enters n f g h k j) c d
   col_enters c d j l g = record {
     within = l;
@@ -248,13 +249,13 @@ module _ (s : Shape) where
         λ h m. outs_same (col_of s) c d (s.rows + j) (omega arith) g h;
   }
 
-  rows_stay : (c d : ℕ → ℕ) (j : ℕ) → j < s.cols → Grew c (s.rows + j) d → Rows Same c d
+  pub rows_stay : (c d : ℕ → ℕ) (j : ℕ) → j < s.cols → Grew c (s.rows + j) d → Rows Same c d
   rows_stay c d j l g = record {
     first = λ i m. g.elsewhere i (λ e. omega arith);
     second = λ i m. outs_same (row_of s) c d (s.rows + j) (omega arith) g i;
   }
 
-  row_leaves : (c d : ℕ → ℕ) (x : ℕ) → x < crossing_count s → Grew c (first_out + x) d
+  pub row_leaves : (c d : ℕ → ℕ) (x : ℕ) → x < crossing_count s → Grew c (first_out + x) d
       → Rows (λ n f g h k. Leaves n f g h k (row_of s x)) c d
   row_leaves c d x l g = record {
     first = λ i m. g.elsewhere i (λ e. omega arith);
@@ -262,7 +263,7 @@ module _ (s : Shape) where
     others = λ i m n. outs_others (row_of s) c d x g i n;
   }
 
-  col_leaves : (c d : ℕ → ℕ) (x : ℕ) → x < crossing_count s → Grew c (first_out + x) d
+  pub col_leaves : (c d : ℕ → ℕ) (x : ℕ) → x < crossing_count s → Grew c (first_out + x) d
       → Cols (λ n f g h k. Leaves n f g h k (col_of s x)) c d
   col_leaves c d x l g = record {
     first = λ j m. g.elsewhere (s.rows + j) (λ e. omega arith);
@@ -272,16 +273,16 @@ module _ (s : Shape) where
 
   -- ---- the states by counts
 
-  abbrev RowsEven : (ℕ → ℕ) → Type 0
+  abbrev pub RowsEven : (ℕ → ℕ) → Type 0
   RowsEven c = Even s.rows c (row_outs s c)
 
-  abbrev RowAhead : (ℕ → ℕ) → ℕ → Type 0
+  abbrev pub RowAhead : (ℕ → ℕ) → ℕ → Type 0
   RowAhead c i = Ahead s.rows c (row_outs s c) i
 
-  abbrev ColsEven : (ℕ → ℕ) → Type 0
+  abbrev pub ColsEven : (ℕ → ℕ) → Type 0
   ColsEven c = Even s.cols (cols_in c) (col_outs s c)
 
-  abbrev ColAhead : (ℕ → ℕ) → ℕ → Type 0
+  abbrev pub ColAhead : (ℕ → ℕ) → ℕ → Type 0
   ColAhead c j = Ahead s.cols (cols_in c) (col_outs s c) j
 
   abbrev Stands : (ℕ → ℕ) → Spot → Type 0
@@ -293,7 +294,7 @@ module _ (s : Shape) where
   abbrev At : (ℕ → ℕ) → ℕ → Type 0
   At c a = KindAt (Dw s) c a
 
-  begins : Stands naught Idle
+  pub begins : RowsEven naught × ColsEven naught
   begins = (λ i l. sym (none (row_of s) i), λ j l. sym (none (col_of s) j))
     where
       none : (t : ℕ → ℕ) (i : ℕ) → outs_by t naught i ≡ 0

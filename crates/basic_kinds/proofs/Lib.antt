@@ -10,3 +10,9 @@ pub mod Sides
 pub mod Crossings
 pub mod DwKind
 pub mod EachKind
+pub mod MergeSteps
+pub mod RoundSteps
+pub mod Search
+pub mod SeqSteps
+pub mod WaitSteps
+pub mod MachineTraces

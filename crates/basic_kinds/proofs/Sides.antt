@@ -1,16 +1,7 @@
 -- The rows of a decision wait, or its columns: how often each has come beside how often its outputs have.
 use Rattle.std.proofs.Common.{◌≡◌, ⊎_elim, ℕ, suc, ◌<◌, sym, ◌∙◌, subst, arith}
 use Rattle.std.proofs.lemmas.Bool.{cases_eq}
-
--- f i is how often side i has come, and g i how often its outputs have
-abbrev pub Even : ℕ → (ℕ → ℕ) → (ℕ → ℕ) → Type 0
-Even n f g = (i : ℕ) → i < n → f i ≡ g i
-
--- side k alone is pending
-pub record Ahead (n : ℕ) (f g : ℕ → ℕ) (k : ℕ) : Type 0 where
-  pub within : k < n
-  pub here : f k ≡ suc (g k)
-  pub others : (i : ℕ) → i < n → (i ≡ k → ⊥) → f i ≡ g i
+use Rattle.basic_kinds.specs.Mirror.Sides.{Even, Ahead}
 
 pub record Same (n : ℕ) (f g h k : ℕ → ℕ) : Type 0 where
   pub first : (i : ℕ) → i < n → h i ≡ f i

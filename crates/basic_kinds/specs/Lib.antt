@@ -6,3 +6,4 @@ pub mod KindCounts
 pub mod Sorts
 pub mod ShapeParts
 pub mod Sums
+pub mod Mirror

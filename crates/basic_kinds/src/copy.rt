@@ -26,7 +26,7 @@ pub fn copy_kind(alloc: Global, kind: &Kind) -> Result<Kind, AllocError>
     }
 }
 
-fn copy_shape(alloc: Global, shape: &Shape) -> Result<Shape, AllocError>
+pub(crate) fn copy_shape(alloc: Global, shape: &Shape) -> Result<Shape, AllocError>
     ensures { IfOk result (λ copy. copy ≡ shape.now) }
 {
     let cross = Items::from_slice(alloc, shape.cross.as_slice())?;

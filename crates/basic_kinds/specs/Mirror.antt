@@ -1,0 +1,3 @@
+-- What the proofs of the code need, and nobody has to believe.
+pub mod Sides
+pub mod Machines
