@@ -1,8 +1,9 @@
-ghost use Rattle.std.specs.Prelude.{◌≡◌, ◌≢◌, ℕ, ◌+◌, ◌<◌, ◌≤◌, ◌^◌, true, false, not, [], ◌∷◌, ◌++◌, length, IfOk, IfErr, OnOk, OnErr, MatchOption, suc, take, drop};
+ghost use Rattle.std.specs.Prelude.{◌≡◌, ◌≢◌, ℕ, ◌+◌, ◌<◌, ◌≤◌, ◌^◌, true, false, not, [], ◌∷◌, ◌++◌, length, IfOk, IfErr, OnOk, OnErr, MatchOption, suc, take, drop, replicate};
 ghost use Rattle.std.specs.List.{AllByRecursion};
-ghost use Rattle.net_core.specs.Wiring.{Node, Circuit, Draft, IsWired, IsOnce, IsClosed, picked, finished, replaced};
+ghost use Rattle.net_core.specs.Wiring.{Node, Circuit, Draft, IsWired, IsOnce, IsClosed, finished, replaced, count, driven, received};
+ghost use Rattle.net_core.specs.Networks.{gives, takes, IsEnd};
 ghost use Rattle.net_core.specs.Specs.{IsFormed};
-ghost use Rattle.net_core.specs.Mirror.Tallies.{Added, Roomy, Kept};
+ghost use Rattle.net_core.specs.Mirror.EndTables.{Added, Kept, IsTable, joined, is_one, numbers_of, ports_from, all_ports, turned, with_parts, no_ends};
 
 use crate::spec::{NodeSpec, directions};
 use std::alloc::{AllocError, Global};
@@ -27,12 +28,60 @@ impl Model for Node {
     ghost view = { λ x. record { spec = x.spec; ends = x.wires.items } };
 }
 
-/// How many output ports and how many input ports are at a wire.
+/// A port of a node, by their numbers. The ports of a node are numbered from 0 in the order of its wires.
+#[derive(Clone, Copy)]
+struct Port {
+    node: u32,
+    number: u32,
+}
+
+/// One end of a wire: the port there, where there is one and no other.
+#[derive(Clone, Copy)]
+enum End {
+    Free,
+    At(Port),
+    Shared,
+}
+
+impl End {
+    /// The end where the port comes to it.
+    fn with(self, port: Port) -> End
+        ensures { result ≡ joined self (End.At port) }
+    {
+        match self {
+            End::Free => End::At(port),
+            End::At(_) | End::Shared => End::Shared,
+        }
+    }
+
+    fn is_one(self) -> bool
+        ensures { result ≡ is_one self }
+    {
+        matches!(self, End::At(_))
+    }
+
+    /// The numbers of the node and of its port, or (0, 0) where there is not one port.
+    fn numbers(self) -> (u32, u32)
+        ensures { result ≡ numbers_of self }
+    {
+        match self {
+            End::At(port) => (port.node, port.number),
+            End::Free | End::Shared => (0, 0),
+        }
+    }
+}
+
+/// The two ends of a wire: the output port that drives it, and the input port that receives from it.
 #[derive(Clone, Copy)]
 struct Ends {
-    drivers: u64,
-    receivers: u64,
+    driver: End,
+    receiver: End,
 }
+
+const NO_ENDS: Ends = Ends {
+    driver: End::Free,
+    receiver: End::Free,
+};
 
 /// A wire that has not one driver and one receiver.
 #[derive(Debug, Clone, Copy, PartialEq, Eq)]
@@ -60,7 +109,7 @@ impl Model for Net {
 
     ghost view = { λ a. record { nodes = a.nodes.items; wires = a.wires } };
 
-    ghost use Rattle.net_core.specs.Mirror.Tallies.{Kept};
+    ghost use Rattle.net_core.specs.Mirror.EndTables.{Kept};
 
     ghost invariant = { λ a. Kept a.nodes.items a.wires a.ends.items };
 }
@@ -86,26 +135,90 @@ impl Model for NetBuilder {
 
     ghost view = { λ a. record { spec = a.spec; parts = a.parts.items; wires = a.wires } };
 
-    ghost use Rattle.net_core.specs.Mirror.Tallies.{KeptDraft};
+    ghost use Rattle.net_core.specs.Mirror.EndTables.{KeptDraft};
 
     ghost invariant = { λ a. KeptDraft a.spec a.parts.items a.wires a.ends.items };
 }
 
-/// Counts each wire at a port with these directions once more, exchanged for the environment.
-fn count_ends(ends: &mut [Ends], outs: &[bool], wires: &[u32], outside: bool)
+/// Notes the ports of a node, with these directions, at their wires. The environment's directions are exchanged.
+fn note_ports(ends: &mut [Ends], outs: &[bool], wires: &[u32], node: u32)
     requires sized { length wires.now ≡ length outs.now }
     requires known { AllByRecursion (λ w. w < length ends.old) wires.now }
-    requires room { Roomy ends.old (length wires.now) }
-    ensures { Added ends.old ends.new (picked (not outside) outs.now wires.now) (picked outside outs.now wires.now) }
+    requires few { length wires.now < 2 ^ 32 }
+    ensures { Added ends.old ends.new (ports_from (turned true node) node 0 outs.now wires.now)
+        (ports_from (turned false node) node 0 outs.now wires.now) }
 {
-    for (port, wire) in wires.iter().enumerate() {
+    let outside = node == 0;
+    for (number, wire) in wires.iter().enumerate() {
+        let port = Port {
+            node,
+            number: number as u32,
+        };
         let end = &mut ends[*wire as usize];
-        if outs[port] != outside {
-            end.drivers += 1;
+        if outs[number] != outside {
+            end.driver = end.driver.with(port);
         } else {
-            end.receivers += 1;
+            end.receiver = end.receiver.with(port);
         }
     }
+}
+
+/// Notes the ports of these nodes, which have the numbers from the first one on.
+fn note_nodes(
+    alloc: Global,
+    ends: &mut [Ends],
+    nodes: &[Node],
+    first: u32,
+) -> Result<(), AllocError>
+    requires wired { AllByRecursion (IsWired (length ends.old)) nodes.now }
+    requires few { first + length nodes.now < 2 ^ 32 }
+    ensures { OnOk result (Added ends.old ends.new (all_ports true first nodes.now) (all_ports false first nodes.now)) }
+{
+    for (place, node) in nodes.iter().enumerate() {
+        let outs = directions(alloc, &node.spec)?;
+        note_ports(ends, &outs, &node.wires, first + place as u32);
+    }
+    Ok(())
+}
+
+/// The ends of so many wires that are at no port.
+fn free_ends(alloc: Global, wires: u32) -> Result<Vec<Ends>, AllocError>
+    ensures { IfOk result (λ ends. ends.items ≡ replicate wires no_ends) }
+{
+    vec![in alloc; NO_ENDS; wires as usize]
+}
+
+/// The ends of so many wires, at the ports of these nodes.
+fn ends_of(alloc: Global, nodes: &[Node], wires: u32) -> Result<Vec<Ends>, AllocError>
+    requires wired { AllByRecursion (IsWired wires) nodes.now }
+    requires few { length nodes.now < 2 ^ 32 }
+    ensures { IfOk result (λ ends. IsTable wires ends.items (all_ports true 0 nodes.now) (all_ports false 0 nodes.now)) }
+{
+    let mut ends = free_ends(alloc, wires)?;
+    note_nodes(alloc, &mut ends, nodes, 0)?;
+    Ok(ends)
+}
+
+/// The ends of so many wires, at the ports of the nodes with the parts in the place of one of them.
+fn ends_with(
+    alloc: Global,
+    nodes: &[Node],
+    at: u32,
+    parts: &[Node],
+    wires: u32,
+) -> Result<Vec<Ends>, AllocError>
+    requires inside { at < length nodes.now }
+    requires wired { AllByRecursion (IsWired wires) (with_parts nodes.now at parts.now) }
+    requires few { length (with_parts nodes.now at parts.now) < 2 ^ 32 }
+    ensures { IfOk result (λ ends. IsTable wires ends.items (all_ports true 0 (with_parts nodes.now at parts.now))
+        (all_ports false 0 (with_parts nodes.now at parts.now))) }
+{
+    let mut ends = free_ends(alloc, wires)?;
+    note_nodes(alloc, &mut ends, &nodes[..at as usize], 0)?;
+    note_nodes(alloc, &mut ends, parts, at)?;
+    let next = at + parts.len() as u32;
+    note_nodes(alloc, &mut ends, &nodes[at as usize + 1..], next)?;
+    Ok(ends)
 }
 
 impl NetBuilder {
@@ -139,11 +252,7 @@ impl NetBuilder {
         ensures ok { IfOk result (λ first. (first ≡ self.old.wires) × (self.new ≡ record self.old { wires = self.old.wires + many })) }
         ensures refused { OnErr result (self.new ≡ self.old) }
     {
-        let none = Ends {
-            drivers: 0,
-            receivers: 0,
-        };
-        self.ends.resize(self.ends.len() + many as usize, none)?;
+        self.ends.resize(self.ends.len() + many as usize, NO_ENDS)?;
         let first = self.wires;
         self.wires += many;
         Ok(first)
@@ -160,10 +269,10 @@ impl NetBuilder {
     {
         let outs = directions(self.alloc, &spec)?;
         self.parts.push(Node { spec, wires })?;
-        let last = self.parts.len() - 1;
-        let node = &self.parts[last];
-        count_ends(&mut self.ends, &outs, &node.wires, false);
-        Ok(last as u32 + 1)
+        let number = self.parts.len() as u32;
+        let node = &self.parts[self.parts.len() - 1];
+        note_ports(&mut self.ends, &outs, &node.wires, number);
+        Ok(number)
     }
 
     /// The network whose environment has these wires at its ports.
@@ -179,7 +288,7 @@ impl NetBuilder {
             alloc,
         } = self;
         let outs = directions(alloc, &spec)?;
-        count_ends(&mut ends, &outs, &wires, true);
+        note_ports(&mut ends, &outs, &wires, 0);
         let mut nodes = parts;
         nodes.insert(0, Node { spec, wires })?;
         Ok(Net {
@@ -221,11 +330,7 @@ impl Net {
         ensures ok { IfOk result (λ net. net ≡ replaced self at parts.items wires) }
         ensures refused { IfErr result (λ error. error.0 ≡ self) }
     {
-        let one = Ends {
-            drivers: 1,
-            receivers: 1,
-        };
-        match vec![in alloc; one; wires as usize] {
+        match ends_with(alloc, &self.nodes, at, &parts, wires) {
             Err(error) => Err((self, error)),
             Ok(ends) => self.replace_with(at, parts, wires, ends),
         }
@@ -268,25 +373,30 @@ impl Net {
         requires closed { IsClosed (record { nodes = nodes.items; wires = wires }) }
         ensures { IfOk result (λ net. net ≡ record { nodes = nodes.items; wires = wires }) }
     {
-        let one = Ends {
-            drivers: 1,
-            receivers: 1,
-        };
-        let ends = vec![in alloc; one; wires as usize]?;
+        let ends = ends_of(alloc, &nodes, wires)?;
         Ok(Net { nodes, wires, ends })
     }
 
-    /// The closed network with these nodes in the place of its own, where each wire again has its two ends.
-    pub(crate) fn with_nodes(self, nodes: Vec<Node>) -> Net
-        requires closed { IsClosed self }
-        requires some { 0 < length nodes.items }
-        requires few { length nodes.items < 2 ^ 32 }
-        requires fit { AllByRecursion (IsWired self.wires) nodes.items }
-        requires still_closed { IsClosed (record self { nodes = nodes.items }) }
-        ensures { result ≡ record self { nodes = nodes.items } }
+    /// The node and its port, counted from 0 in the order of its wires, that drive the wire: the port is an output,
+    /// and of the environment an input of its specification. Where not one port drives the wire, it is (0, 0).
+    /// It takes no memory and the same time for each wire.
+    pub fn driver(&self, wire: u32) -> (u32, u32)
+        requires { wire < self.now.wires }
+        ensures one { count wire (driven self.now) ≡ 1 → IsEnd (gives self.now) self.now wire result.0 result.1 }
+        ensures open { count wire (driven self.now) ≢ 1 → (result.0 ≡ 0) × (result.1 ≡ 0) }
     {
-        let Net { wires, ends, .. } = self;
-        Net { nodes, wires, ends }
+        self.ends[wire as usize].driver.numbers()
+    }
+
+    /// The node and its port that receive from the wire: the port is an input, and of the environment an output of
+    /// its specification. Where not one port receives from the wire, it is (0, 0).
+    /// It takes no memory and the same time for each wire.
+    pub fn receiver(&self, wire: u32) -> (u32, u32)
+        requires { wire < self.now.wires }
+        ensures one { count wire (received self.now) ≡ 1 → IsEnd (takes self.now) self.now wire result.0 result.1 }
+        ensures open { count wire (received self.now) ≢ 1 → (result.0 ≡ 0) × (result.1 ≡ 0) }
+    {
+        self.ends[wire as usize].receiver.numbers()
     }
 }
 
@@ -298,7 +408,7 @@ pub fn closed(net: &Net) -> Option<OpenPort>
 {
     for wire in 0..net.wires {
         let end = net.ends[wire as usize];
-        if end.drivers != 1 || end.receivers != 1 {
+        if !end.driver.is_one() || !end.receiver.is_one() {
             return Some(OpenPort { wire });
         }
     }
