@@ -9,8 +9,8 @@ use Rattle.cmd_tree.specs.Limits.{marks_of_all}
 use Rattle.basic_kinds.specs.Kinds.{inputs_of, outputs_of}
 use Rattle.net_core.specs.declared.spec.NodeSpec.{NodeSpec}
 use Rattle.net_core.specs.declared.spec.NodeSpec.TheVariants.{Kind, Cmd}
-use Rattle.net_core.specs.declared.net.End.{End}
-use Rattle.net_core.specs.declared.net.Ends.{Ends}
+use Rattle.net_core.specs.declared.table.End.{End}
+use Rattle.net_core.specs.declared.table.Ends.{Ends}
 use Rattle.net_core.specs.Specs.{outs_of, IsFormed, gives_symbol}
 use Rattle.net_core.specs.Wiring.{Node, IsWired}
 use Rattle.net_core.specs.Mirror.EndTables.{Place, IsTable, Added, Kept, KeptDraft, joined, end_in, turned, ports_of, all_ports, with_parts, driver_at, receiver_at, no_ends}

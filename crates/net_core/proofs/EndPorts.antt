@@ -4,10 +4,10 @@ use Rattle.std.specs.Prelude.{slice_get, nat_eq}
 use Rattle.std.specs.List.{AllByRecursion}
 use Rattle.std.proofs.lemmas.Bool.{cases_eq, false≢true}
 use Rattle.std.proofs.lemmas.List.{map-append, get_or_default}
-use Rattle.net_core.specs.declared.net.Port.{Port}
-use Rattle.net_core.specs.declared.net.End.{End}
-use Rattle.net_core.specs.declared.net.End.TheVariants.{Free, At, Shared}
-use Rattle.net_core.specs.declared.net.Ends.{Ends}
+use Rattle.net_core.specs.declared.table.Port.{Port}
+use Rattle.net_core.specs.declared.table.End.{End}
+use Rattle.net_core.specs.declared.table.End.TheVariants.{Free, At, Shared}
+use Rattle.net_core.specs.declared.table.Ends.{Ends}
 use Rattle.net_core.specs.Specs.{outs_of}
 use Rattle.net_core.specs.Wiring.{Node, Circuit, IsWired, count, picked, side, flows, wiring, driven, received, IsOnce}
 use Rattle.net_core.specs.Networks.{directions_at, gives, takes, end_of, end_at, IsEnd, Once}

@@ -3,9 +3,9 @@ use Rattle.std.proofs.Common.{◌≡◌, ◌≢◌, ℕ, zero, suc, ◌+◌, ◌
 use Rattle.std.specs.Prelude.{slice_get}
 use Rattle.std.specs.List.{AllByRecursion}
 use Rattle.std.proofs.lemmas.Bool.{cases_eq}
-use Rattle.net_core.specs.declared.net.Port.{Port}
-use Rattle.net_core.specs.declared.net.End.{End}
-use Rattle.net_core.specs.declared.net.End.TheVariants.{Free, At, Shared}
+use Rattle.net_core.specs.declared.table.Port.{Port}
+use Rattle.net_core.specs.declared.table.End.{End}
+use Rattle.net_core.specs.declared.table.End.TheVariants.{Free, At, Shared}
 use Rattle.net_core.specs.Wiring.{Node}
 use Rattle.net_core.specs.Mirror.EndTables.{Place, joined, end_in, ports_from, ports_of, all_ports}
 use Rattle.net_core.proofs.Sizes.{all_append}

@@ -4,10 +4,10 @@ use Rattle.std.specs.Prelude.{nat_eq}
 use Rattle.std.proofs.lemmas.List.{get_or-set_same, get_or-set_other}
 use Rattle.std.proofs.lemmas.Bool.{cases_eq}
 use Rattle.std.proofs.Math.ListN.{length-set}
-use Rattle.net_core.specs.declared.net.Port.{Port}
-use Rattle.net_core.specs.declared.net.End.{End}
-use Rattle.net_core.specs.declared.net.End.TheVariants.{At}
-use Rattle.net_core.specs.declared.net.Ends.{Ends}
+use Rattle.net_core.specs.declared.table.Port.{Port}
+use Rattle.net_core.specs.declared.table.End.{End}
+use Rattle.net_core.specs.declared.table.End.TheVariants.{At}
+use Rattle.net_core.specs.declared.table.Ends.{Ends}
 use Rattle.net_core.specs.Mirror.EndTables.{joined, driver_at, receiver_at, no_ends, Added, turned, ports_from}
 use Rattle.net_core.proofs.Joining.{joined_assoc, joined_free, left, left_here, left_elsewhere, left_other_side, left_none}
 

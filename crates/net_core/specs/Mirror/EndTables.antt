@@ -2,10 +2,10 @@
 use Rattle.std.specs.Prelude.{◌≡◌, ℕ, suc, ◌+◌, ◌<◌, ◌^◌, Bool, true, false, not, if◌then◌else◌, nat_eq, List, [], ◌∷◌, ◌++◌, length, take, drop, slice_index_or}
 use Rattle.std.specs.List.{AllByRecursion}
 use Rattle.net_core.specs.declared.spec.NodeSpec.{NodeSpec}
-use Rattle.net_core.specs.declared.net.Port.{Port}
-use Rattle.net_core.specs.declared.net.End.{End}
-use Rattle.net_core.specs.declared.net.End.TheVariants.{Free, At, Shared}
-use Rattle.net_core.specs.declared.net.Ends.{Ends}
+use Rattle.net_core.specs.declared.table.Port.{Port}
+use Rattle.net_core.specs.declared.table.End.{End}
+use Rattle.net_core.specs.declared.table.End.TheVariants.{Free, At, Shared}
+use Rattle.net_core.specs.declared.table.Ends.{Ends}
 use Rattle.net_core.specs.Specs.{outs_of, IsFormed}
 use Rattle.net_core.specs.Wiring.{Node, IsWired}
 

@@ -1,11 +1,11 @@
 use Rattle.std.proofs.Common.{◌≡◌, List, [], ℕ, length, true, false, replicate, sym, ap, ◌∙◌, subst, rules}
 use Rattle.std.specs.List.{AllByRecursion}
 use Rattle.std.proofs.lemmas.List.{length-replicate}
-use Rattle.net_core.specs.declared.net.Ends.{Ends}
+use Rattle.net_core.specs.declared.table.Ends.{Ends}
 use Rattle.net_core.specs.Wiring.{Node, IsWired}
 use Rattle.net_core.specs.Mirror.EndTables.{Added, all_ports, no_ends}
 use Rattle.net_core.proofs.Drafts.{empty_table, added_table, written_all}
-use Rattle.net_core.proofs.net.ends_of.Goals as goal
+use Rattle.net_core.proofs.table.ends_of.Goals as goal
 
 pub note_nodes-requires-clause-wired : goal.note_nodes-requires-clause-wired
 note_nodes-requires-clause-wired c =

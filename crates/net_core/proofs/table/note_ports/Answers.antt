@@ -1,10 +1,10 @@
 use Rattle.std.proofs.Common.{◌<◌, ◌+◌, length, get_or, arith, refl, false, subst, sym, List}
 use Rattle.std.specs.Prelude.{nat_eq}
-use Rattle.net_core.specs.declared.net.Ends.{Ends}
+use Rattle.net_core.specs.declared.table.Ends.{Ends}
 use Rattle.net_core.proofs.Counting.{all_at, differs, agrees}
 use Rattle.net_core.proofs.Noting.{Noted, noted_all, more_driver, more_receiver}
-use Rattle.net_core.proofs.net.note_ports.Goals as goal
-use Rattle.net_core.proofs.net.note_ports.Goals.{then-outs-number, else-outs-number}
+use Rattle.net_core.proofs.table.note_ports.Goals as goal
+use Rattle.net_core.proofs.table.note_ports.Goals.{then-outs-number, else-outs-number}
 
 pub loop-number-preserved : goal.loop-number-preserved
 loop-number-preserved c =

@@ -6,7 +6,7 @@ use Rattle.net_core.specs.Wiring.{Node, IsWired}
 use Rattle.net_core.specs.Mirror.EndTables.{Added, ports_of}
 use Rattle.net_core.proofs.Drafts.{added_none, added_next, wires_few}
 use Rattle.net_core.proofs.Found.{all_nodes}
-use Rattle.net_core.proofs.net.note_nodes.Goals as goal
+use Rattle.net_core.proofs.table.note_nodes.Goals as goal
 
 pub loop-place-init : goal.loop-place-init
 loop-place-init c = added_none c.args.ends.now c.args.first

@@ -2,11 +2,11 @@ use Rattle.std.proofs.Common.{◌≡◌, ◌<◌, ◌+◌, ◌-◌, ◌++◌, Li
 use Rattle.std.specs.List.{AllByRecursion}
 use Rattle.std.proofs.lemmas.List.{length-replicate, take_rest}
 use Rattle.basic_kinds.proofs.Projections.{all_front}
-use Rattle.net_core.specs.declared.net.Ends.{Ends}
+use Rattle.net_core.specs.declared.table.Ends.{Ends}
 use Rattle.net_core.specs.Wiring.{Node, IsWired}
 use Rattle.net_core.specs.Mirror.EndTables.{Added, IsTable, all_ports, no_ends, with_parts}
 use Rattle.net_core.proofs.Drafts.{table_with, written_all}
-use Rattle.net_core.proofs.net.ends_with.Goals as goal
+use Rattle.net_core.proofs.table.ends_with.Goals as goal
 
 pub note_nodes-requires-clause-wired : goal.note_nodes-requires-clause-wired
 note_nodes-requires-clause-wired c =
