@@ -2,30 +2,16 @@
 use Rattle.std.proofs.Common.{◌≡◌, ⊎_elim, ℕ, ◌<◌, Bool, true, false, true≢false, not, IsTrue, List, length, refl, sym, arith, Option, None, Some}
 use Rattle.std.specs.Prelude.{slice_get, MatchOption}
 use Rattle.std.specs.Option.{is_some}
-use Rattle.std.specs.List.{AllByRecursion}
-use Rattle.std.proofs.lemmas.Bool.{cases_lt}
-use Rattle.net_core.specs.Wiring.{Circuit, IsNetwork, IsClosed, count}
-use Rattle.net_core.specs.Walk.{ends_at}
-use Rattle.net_core.proofs.Counting.{count_above}
+use Rattle.net_core.specs.Wiring.{Circuit, IsNetwork, IsClosed}
 use Rattle.substitute.specs.Splice.{Fitting}
 use Rattle.substitute.specs.Refusals.{IsSame, IsAround, IsNone, IsLeast}
-use Rattle.substitute.proofs.Ports.{around_found}
 
 module _ (c : Circuit) (a : ℕ) (m : Circuit) (net : IsNetwork c) (closed : IsClosed c) (part : IsNetwork m)
-    (component : 0 < a) (inside : a < length c.nodes)
-    (ends : List ℕ) (is : ends ≡ ends_at (slice_get c.nodes a))
-    (known : AllByRecursion (λ w. w < c.wires) ends) where
-  counted_known : (w : ℕ) → 1 < count w ends → w < c.wires
-  counted_known w h = ⊎_elim (λ l. l) (λ g. absurd (omega (arith, h, count_above c.wires w ends g known)))
-      (cases_lt w c.wires)
+    (component : 0 < a) (inside : a < length c.nodes) where
+  pub around_refused : (w : ℕ) × (w < c.wires) × IsAround c a w → Fitting c a m → ⊥
+  around_refused (w, l, around) fit = fit.not_self w l around.0 around.1
 
-  pub twice_refused : (w : ℕ) × (1 < count w ends) → Fitting c a m → ⊥
-  twice_refused h fit =
-      let l = counted_known h.0 h.1 in
-      let around = (around_found c net.wired closed a inside ends is).0 h.0 l h.1 in
-      fit.not_self h.0 l around.0 around.1
-
-  fits : ((w : ℕ) × (1 < count w ends) → ⊥) → IsSame c a m → IsClosed m → IsNone (IsAround m 0) m.wires
+  fits : ((w : ℕ) × (w < c.wires) × IsAround c a w → ⊥) → IsSame c a m → IsClosed m → IsNone (IsAround m 0) m.wires
       → Fitting c a m
   fits once same part_closed none = record {
     fit_net = net.wired;
@@ -37,10 +23,10 @@ module _ (c : Circuit) (a : ℕ) (m : Circuit) (net : IsNetwork c) (closed : IsC
     some = part.some;
     same = same;
     not_through = none;
-    not_self = λ w l from to. once (w, (around_found c net.wired closed a inside ends is).1 w l (from, to));
+    not_self = λ w l from to. once (w, l, (from, to));
   }
 
-  pub looked : ((w : ℕ) × (1 < count w ends) → ⊥) → IsSame c a m → IsClosed m → (o : Option ℕ)
+  pub looked : ((w : ℕ) × (w < c.wires) × IsAround c a w → ⊥) → IsSame c a m → IsClosed m → (o : Option ℕ)
       → MatchOption o (IsNone (IsAround m 0) m.wires) (λ w. IsLeast (IsAround m 0) m.wires w) → (b : Bool)
       → is_some o ≡ not b
       → (IsTrue b → Fitting c a m) × (Fitting c a m → IsTrue b)
