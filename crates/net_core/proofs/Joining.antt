@@ -1,9 +1,8 @@
 -- The end of a wire, as ports come to it.
-use Rattle.std.proofs.Common.{◌≡◌, ◌≢◌, ℕ, zero, suc, ◌+◌, ◌<◌, ◌≤◌, Bool, true, false, not, List, [], ◌∷◌, ◌++◌, length, drop, get_or, Some, refl, sym, ap, ◌∙◌, subst, arith, inl, inr, eq-eqb, ne_eqb, drop-cons, length-drop, add-one, append-nil, append_assoc}
+use Rattle.std.proofs.Common.{◌≡◌, ◌≢◌, ℕ, suc, ◌+◌, ◌<◌, ◌≤◌, Bool, true, false, not, List, [], ◌∷◌, ◌++◌, length, drop, get_or, Some, refl, sym, ap, ◌∙◌, subst, arith, inl, inr, eq-eqb, ne_eqb, drop-cons, length-drop, add-one, append-nil, append_assoc}
 use Rattle.std.specs.Prelude.{slice_get}
 use Rattle.std.specs.List.{AllByRecursion}
 use Rattle.std.proofs.lemmas.Bool.{cases_eq}
-use Rattle.net_core.specs.declared.table.Port.{Port}
 use Rattle.net_core.specs.declared.table.End.{End}
 use Rattle.net_core.specs.declared.table.End.TheVariants.{Free, At, Shared}
 use Rattle.net_core.specs.Wiring.{Node}

@@ -15,5 +15,4 @@ pub mod OnePass
 pub mod Turns
 pub mod Passes
 pub mod AllSpliced
-pub mod Looked
 pub mod Looks

@@ -1,7 +1,6 @@
 -- Mirror of what the code that walks through a network keeps: marks, tables, and how far it is.
-use Rattle.std.specs.Prelude.{◌≡◌, ◌≢◌, ◌≤◌, ◌<◌, ℕ, nat_eq, Bool, true, false, List, length, slice_get, slice_index, slice_index_or}
+use Rattle.std.specs.Prelude.{◌≡◌, ◌≤◌, ◌<◌, ℕ, Bool, true, false, List, length, slice_get, slice_index_or}
 use Rattle.net_core.specs.Wiring.{Circuit}
-use Rattle.net_core.specs.Networks.{takes, end_node}
 use Rattle.cmd_tree.specs.Lists.{is_in}
 use Rattle.net_core.specs.Walk.{Walk, source_at, walked}
 

@@ -2,7 +2,7 @@ use Rattle.std.proofs.Common.{◌≡◌, List, [], ℕ, length, true, false, rep
 use Rattle.std.specs.List.{AllByRecursion}
 use Rattle.std.proofs.lemmas.List.{length-replicate}
 use Rattle.net_core.specs.declared.table.Ends.{Ends}
-use Rattle.net_core.specs.Wiring.{Node, IsWired}
+use Rattle.net_core.specs.Wiring.{IsWired}
 use Rattle.net_core.specs.Mirror.EndTables.{Added, all_ports, no_ends}
 use Rattle.net_core.proofs.Drafts.{empty_table, added_table, written_all}
 use Rattle.net_core.proofs.table.ends_of.Goals as goal

@@ -1,10 +1,10 @@
-use Rattle.std.proofs.Common.{◌≡◌, ◌<◌, ◌+◌, ◌-◌, ◌++◌, List, ℕ, suc, length, take, drop, replicate, true, false, refl, sym, ap, ◌∙◌, subst, arith, rules, add-one}
+use Rattle.std.proofs.Common.{◌≡◌, ◌+◌, ◌-◌, ◌++◌, List, ℕ, suc, length, take, drop, replicate, true, false, sym, ap, ◌∙◌, subst, rules, add-one}
 use Rattle.std.specs.List.{AllByRecursion}
 use Rattle.std.proofs.lemmas.List.{length-replicate, take_rest}
 use Rattle.basic_kinds.proofs.Projections.{all_front}
 use Rattle.net_core.specs.declared.table.Ends.{Ends}
-use Rattle.net_core.specs.Wiring.{Node, IsWired}
-use Rattle.net_core.specs.Mirror.EndTables.{Added, IsTable, all_ports, no_ends, with_parts}
+use Rattle.net_core.specs.Wiring.{IsWired}
+use Rattle.net_core.specs.Mirror.EndTables.{Added, all_ports, no_ends}
 use Rattle.net_core.proofs.Drafts.{table_with, written_all}
 use Rattle.net_core.proofs.table.ends_with.Goals as goal
 

@@ -1,5 +1,5 @@
 use Rattle.std.proofs.Common.{◌≡◌, ◌∷◌, [], ◌++◌, ◌-◌, ◌<◌, ◌^◌, suc, length, ap, ◌∙◌, arith, rules, true, false}
-use Rattle.net_core.specs.Wiring.{Node, Draft, side, IsWired}
+use Rattle.net_core.specs.Wiring.{Node, Draft, IsWired}
 use Rattle.net_core.specs.Specs.{outs_of}
 use Rattle.net_core.specs.Mirror.EndTables.{Added, ports_of}
 use Rattle.net_core.proofs.Drafts.{one_part, last_is, written_all, wires_few}
