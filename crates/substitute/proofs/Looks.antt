@@ -1,5 +1,5 @@
 -- The loop that looks at each part, one step at a time.
-use Rattle.std.proofs.Common.{◌≡◌, ◌↔◌, ℕ, ◌+◌, ◌<◌, List, length, drop, get_or, Option}
+use Rattle.std.proofs.Common.{◌≡◌, ◌↔◌, ℕ, ◌+◌, ◌<◌, List, drop, Option}
 use Rattle.net_core.specs.Wiring.{Circuit}
 use Rattle.substitute.specs.Splices.{FitEach, wires_in}
 

@@ -1,12 +1,12 @@
 -- A wire that goes from a node to itself is at one of the node's ports.
-use Rattle.std.proofs.Common.{◌≡◌, ℕ, ◌<◌, true, List, length, get_or, Option, Some, sym, ap, ◌∙◌, subst, arith}
+use Rattle.std.proofs.Common.{◌≡◌, ℕ, ◌<◌, true, List, length, get_or, sym, ap, ◌∙◌, arith}
 use Rattle.std.specs.Prelude.{slice_get}
 use Rattle.std.specs.List.{AllByRecursion}
-use Rattle.net_core.specs.Wiring.{Node, Circuit, IsWired, IsClosed}
+use Rattle.net_core.specs.Wiring.{Circuit, IsWired, IsClosed}
 use Rattle.net_core.specs.Networks.{directions_at, gives, end_of, end_at}
 use Rattle.net_core.specs.Walk.{ends_at}
 use Rattle.net_core.proofs.Found.{Located, gives_located, all_nodes, same_ports}
-use Rattle.substitute.specs.Splice.{driver, output_port}
+use Rattle.substitute.specs.Splice.{output_port}
 use Rattle.substitute.specs.Refusals.{IsAround}
 use Rattle.substitute.proofs.Outer.{node_at}
 

@@ -1,15 +1,15 @@
 -- The components with the numbers of the table are those of the spliced network.
-use Rattle.std.proofs.Common.{◌≡◌, ◌≢◌, ◌⊎◌, inl, inr, ℕ, zero, suc, ◌+◌, ◌<◌, ◌≤◌, Bool, true, false, not, List, [], ◌∷◌, ◌++◌, length, map, take, drop, get_or, Option, None, Some, refl, sym, ap, ◌∙◌, subst, arith, nat_eq, eq-eqb, ne_eqb, if◌then◌else◌}
+use Rattle.std.proofs.Common.{◌≡◌, inl, inr, ℕ, zero, suc, ◌+◌, ◌<◌, ◌≤◌, Bool, List, [], ◌∷◌, ◌++◌, length, map, take, drop, get_or, refl, sym, ap, ◌∙◌, subst, arith}
 use Rattle.std.specs.Prelude.{slice_get, Result, Ok, Err, IfOk, ◌^◌}
 use Rattle.std.specs.List.{AllByRecursion, range_with_len}
-use Rattle.std.proofs.lemmas.Bool.{cases_eq, cases_lt, cases_Bool, false≢true, and_parts}
+use Rattle.std.proofs.lemmas.Bool.{cases_Bool}
 use Rattle.std.proofs.lemmas.Option.{same_Some}
 use Rattle.std.proofs.lemmas.List.FromFn.{get_or-map-range_with_len}
 use Rattle.net_core.specs.Specs.{outs_of}
-use Rattle.net_core.specs.Wiring.{Node, Circuit, IsWired, IsNetwork, count, moved, replaced}
-use Rattle.net_core.specs.Networks.{directions_at, directions, gives, takes, end_of, end_at, spec_of}
-use Rattle.net_core.proofs.Found.{Located, gives_located, takes_located, all_nodes, same_ports, gives_there, takes_there}
-use Rattle.substitute.specs.Splice.{driver, receiver, output_port, input_port, is_inner, rank, renumber_at, renumber, spliced, Fitting, FitsAt}
+use Rattle.net_core.specs.Wiring.{Node, Circuit, IsWired, IsNetwork, moved, replaced}
+use Rattle.net_core.specs.Networks.{spec_of}
+use Rattle.net_core.proofs.Found.{all_nodes}
+use Rattle.substitute.specs.Splice.{is_inner, rank, renumber_at, renumber, spliced, Fitting, FitsAt}
 use Rattle.net_core.specs.Walk.{ends_at}
 use Rattle.substitute.proofs.Ranks.{rank_next, rank_stays, rank_zero}
 use Rattle.substitute.proofs.Outer.{node_at}
