@@ -242,9 +242,9 @@ impl Net {
         Ok(Net { nodes, wires, ends })
     }
 
-    /// The node and its port, counted from 0 in the order of its wires, that drive the wire: the port is an output,
-    /// and of the environment an input of its specification. Where not one port drives the wire, it is (0, 0).
-    /// It takes no memory and the same time for each wire.
+    /// The node that drives the wire, and its port at the wire, counted from 0 in the order of the node's wires: an
+    /// output, and of the environment an input of its specification. For a wire with no driver, or with several, the
+    /// answer is (0, 0). It takes no memory, and the same time for each wire.
     pub fn driver(&self, wire: u32) -> (u32, u32)
         requires { wire < self.now.wires }
         ensures one { count wire (driven self.now) ≡ 1 → IsEnd (gives self.now) self.now wire result.0 result.1 }
@@ -253,9 +253,9 @@ impl Net {
         self.ends[wire as usize].driver.numbers()
     }
 
-    /// The node and its port that receive from the wire: the port is an input, and of the environment an output of
-    /// its specification. Where not one port receives from the wire, it is (0, 0).
-    /// It takes no memory and the same time for each wire.
+    /// The node that receives from the wire, and its port at the wire: an input, and of the environment an output of
+    /// its specification. For a wire with no receiver, or with several, the answer is (0, 0). It takes no memory, and
+    /// the same time for each wire.
     pub fn receiver(&self, wire: u32) -> (u32, u32)
         requires { wire < self.now.wires }
         ensures one { count wire (received self.now) ≡ 1 → IsEnd (takes self.now) self.now wire result.0 result.1 }

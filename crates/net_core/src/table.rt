@@ -15,11 +15,14 @@ pub struct Port {
     pub number: u32,
 }
 
-/// One end of a wire: the port there, where there is one and no other.
+/// One end of a wire, by the ports that are there.
 #[derive(Clone, Copy)]
 pub enum End {
+    /// No port.
     Free,
+    /// This port and no other.
     At(Port),
+    /// Two ports or more.
     Shared,
 }
 
@@ -41,7 +44,7 @@ impl End {
         matches!(self, End::At(_))
     }
 
-    /// The numbers of the node and of its port, or (0, 0) where there is not one port.
+    /// The numbers of the node and of its port, or (0, 0) where there is none, or more than one.
     pub fn numbers(self) -> (u32, u32)
         ensures { result ≡ numbers_of self }
     {
@@ -59,6 +62,7 @@ pub struct Ends {
     pub receiver: End,
 }
 
+/// The ends of a wire that is at no port.
 pub const NO_ENDS: Ends = Ends {
     driver: End::Free,
     receiver: End::Free,
