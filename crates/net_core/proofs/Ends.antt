@@ -224,10 +224,17 @@ module _ (f : ℕ → ℕ → Bool) (c : Circuit) (w k : ℕ) where
       let y : (j.0 ≡ n) × (j.1 ≡ p) = only j.0 j.1 t.0 t.1 in
       absurd (ne (pair i j (x.0 ∙ sym y.0) (x.1 ∙ sym y.1)))
 
+-- a wire with one driver, or with one receiver, has it at one port and no other
+pub gives_once : (c : Circuit) → AllByRecursion (IsWired c.wires) c.nodes → (w : ℕ) → count w (driven c) ≡ 1 → Once (gives c) c w
+gives_once c fit w e = once_of_count (gives c) c w (count w (driven c)) (has_gives c w fit) e
+
+pub takes_once : (c : Circuit) → AllByRecursion (IsWired c.wires) c.nodes → (w : ℕ) → count w (received c) ≡ 1 → Once (takes c) c w
+takes_once c fit w e = once_of_count (takes c) c w (count w (received c)) (has_takes c w fit) e
+
 -- Where each node has one known wire at each port, the two ways to say that a network is closed are one.
 pub closed_by_ends : (c : Circuit) → AllByRecursion (IsWired c.wires) c.nodes → IsClosed c → IsClosedByEnds c
 closed_by_ends c fit closed w h =
-    (once_of_count (gives c) c w (count w (driven c)) (has_gives c w fit) (closed w h).0, once_of_count (takes c) c w (count w (received c)) (has_takes c w fit) (closed w h).1)
+    (gives_once c fit w (closed w h).0, takes_once c fit w (closed w h).1)
 
 pub closed_by_counts : (c : Circuit) → AllByRecursion (IsWired c.wires) c.nodes → IsClosedByEnds c → IsClosed c
 closed_by_counts c fit ends w h =

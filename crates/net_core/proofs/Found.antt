@@ -3,7 +3,7 @@ use Rattle.std.proofs.Common.{◌≡◌, ℕ, zero, suc, ◌<◌, Bool, true, fa
 use Rattle.std.specs.Prelude.{slice_get, nat_eq}
 use Rattle.std.specs.List.{AllByRecursion, list_any, range_with_len, position_or_len}
 use Rattle.std.proofs.lemmas.Bool.{cases_Bool, cases_lt, false≢true, and_parts, and_from, eqb-true}
-use Rattle.std.proofs.lemmas.List.{get_or_past, get_or_default, length-map}
+use Rattle.std.proofs.lemmas.List.{get_or_past, length-map}
 use Rattle.std.proofs.lemmas.List.Folds.{Any-from_list_any, list_any_at}
 use Rattle.std.proofs.lemmas.List.FromFn.{get_or-range_with_len, length-range_with_len}
 use Rattle.std.proofs.lemmas.List.Sums.{position_or_len_is, passes_at_first, fails_before_first}
@@ -99,13 +99,6 @@ takes_there c n p t = elim (cases_lt p (length (directions c n))) [
   | inl h ↦ there_by_port c n p h
   | inr past ↦ absurd (false≢true (ap not (sym (get_or_past (directions c n) p true past)) ∙ t))
 ]
-
--- a port is not both given and taken
-pub one_side : (c : Circuit) (n p : ℕ) → gives c n p ≡ true → takes c n p ≡ true → ⊥
-one_side c n p g t =
-    let h : p < length (directions c n) = (gives_there c n p g).1 in
-    let same : get_or (directions c n) p false ≡ get_or (directions c n) p true = get_or_default (directions c n) p false true h in
-    false≢true (ap not (sym g ∙ same) ∙ t)
 
 pub all_nodes : (P : Node → Type 0) (xs : List Node) (n : ℕ) (x : Node) → AllByRecursion P xs → slice_get xs n ≡ Some x → P x
 all_nodes P [] n x all e = absurd (cc)

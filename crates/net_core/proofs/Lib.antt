@@ -1,7 +1,9 @@
 pub mod Counting
 pub mod Ends
 pub mod Found
-pub mod Tallying
+pub mod Joining
+pub mod Noting
+pub mod EndPorts
 pub mod Drafts
 pub mod FirstMarks
 pub mod Updates
@@ -17,7 +19,6 @@ pub mod Places
 pub mod WithNew
 pub mod Walked
 pub mod WalkOrder
-pub mod Receivers
 pub mod Listings
 pub mod WalkSteps
 pub mod WalkStates

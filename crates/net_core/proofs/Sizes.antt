@@ -35,7 +35,7 @@ total_ones (suc n) = omega (arith, total_ones n)
 pub each_once : (n : ℕ) (xs : List ℕ) → AllByRecursion (λ w. w < n) xs → ((w : ℕ) → w < n → count w xs ≡ 1) → length xs ≡ n
 each_once n xs all once = sym (all_counted n xs all) ∙ total_same n (λ w. count w xs) (λ w. 1) once ∙ total_ones n
 
-pub all_append : (P : ℕ → Type 0) (xs ys : List ℕ) → AllByRecursion P xs → AllByRecursion P ys → AllByRecursion P (xs ++ ys)
+pub all_append : {A : Type 0} (P : A → Type 0) (xs ys : List A) → AllByRecursion P xs → AllByRecursion P ys → AllByRecursion P (xs ++ ys)
 all_append P [] ys a b = b
 all_append P (x ∷ xs) ys a b = (a.0, all_append P xs ys a.1 b)
 

@@ -7,7 +7,7 @@ use Rattle.net_core.specs.Wiring.{Circuit, IsWired, IsClosed}
 use Rattle.net_core.specs.Networks.{takes, end_node}
 use Rattle.cmd_tree.specs.Lists.{is_in}
 use Rattle.net_core.specs.Walk.{Walk, with_new, output_wires, list_node, walk_step, outset, walk_of}
-use Rattle.net_core.specs.Mirror.Walking.{AreReceivers, Leads, IsVisited, AreSourcesListed}
+use Rattle.net_core.specs.Mirror.Walking.{Leads, IsVisited, AreSourcesListed}
 use Rattle.net_core.specs.Mirror.WalkStates.{walk_in, IsSized, Walks}
 use Rattle.net_core.proofs.Counting.{all_at}
 use Rattle.net_core.proofs.Places.{few_below}
@@ -39,23 +39,22 @@ module _ (c : Circuit) (fit : AllByRecursion (IsWired c.wires) c.nodes) (closed 
   pub visited_few : (s : WalkState) → Walks c s → s.visited < length s.numbered.numbers → s.visited < c.wires
   visited_few s walks left = let h = holds s walks in omega (arith, few_below c.wires s.numbered.numbers h.known h.once)
 
-  -- the next wire and its receiver, as they stand in the tables
+  -- the next wire and its receiver
   module _ (s : WalkState) (walks : Walks c s) (left : s.visited < length s.numbered.numbers) (ns : List ℕ) (are : ns ≡ s.numbered.numbers) where
     pub wire_known : get_or ns s.visited 0 < c.wires
     wire_known = let h = holds s walks in
         subst (λ (l : List ℕ). get_or l s.visited 0 < c.wires) (sym are) (all_at (λ v. v < c.wires) s.numbered.numbers s.visited h.known left)
 
-    pub receiver_known : (rs : List ℕ) → AreReceivers c rs → get_or rs (get_or ns s.visited 0) 0 < length c.nodes
-    receiver_known rs told = subst (λ n. n < length c.nodes) (sym (told.each (get_or ns s.visited 0) wire_known))
-        (receiver_there c fit closed (get_or ns s.visited 0) wire_known)
+    pub receiver_known : (r : ℕ) → end_node (takes c) c (get_or ns s.visited 0) ≡ r → r < length c.nodes
+    receiver_known r is = subst (λ n. n < length c.nodes) is (receiver_there c fit closed (get_or ns s.visited 0) wire_known)
 
-    pub visit_step : (rs : List ℕ) → AreReceivers c rs → (t : Walk)
-        → t ≡ list_node c (get_or rs (get_or ns s.visited 0) 0) (record { listed = s.listed.numbers; numbered = s.numbered.numbers; visited = s.visited + 1 })
+    pub visit_step : (r : ℕ) → end_node (takes c) c (get_or ns s.visited 0) ≡ r → (t : Walk)
+        → t ≡ list_node c r (record { listed = s.listed.numbers; numbered = s.numbered.numbers; visited = s.visited + 1 })
         → walk_step c (walk_in s) ≡ Some t
-    visit_step rs told t e =
+    visit_step r is t e =
         let one : suc s.visited ≡ s.visited + 1 = omega arith in
-        let same : end_node (takes c) c (get_or s.numbered.numbers s.visited 0) ≡ get_or rs (get_or ns s.visited 0) 0 =
-        ap (λ (l : List ℕ). end_node (takes c) c (get_or l s.visited 0)) (sym are) ∙ sym (told.each (get_or ns s.visited 0) wire_known) in
+        let same : end_node (takes c) c (get_or s.numbered.numbers s.visited 0) ≡ r =
+        ap (λ (l : List ℕ). end_node (takes c) c (get_or l s.visited 0)) (sym are) ∙ is in
         step_visits c (walk_in s) left
         ∙ ap Some ((λ i. list_node c (same i) (record { listed = s.listed.numbers; numbered = s.numbered.numbers; visited = one i })) ∙ sym e)
 

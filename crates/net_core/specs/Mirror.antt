@@ -1,4 +1,4 @@
 -- Mirrors of the code's states: what the code keeps, which nobody has to believe.
-pub mod Tallies
+pub mod EndTables
 pub mod Walking
 pub mod WalkStates

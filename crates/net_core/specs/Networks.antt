@@ -54,6 +54,10 @@ unfoldable pub end_port : (ℕ → ℕ → Bool) → Circuit → ℕ → ℕ
 end_port f c w = position_or_len (λ p. f (end_node f c w) p && nat_eq (end_at c (end_node f c w) p) w)
     (range_with_len 0 (length (directions c (end_node f c w))))
 
+-- port p of node n is one of those in f, is at the wire w, and is the first that is
+abbrev pub IsEnd : (ℕ → ℕ → Bool) → Circuit → ℕ → ℕ → ℕ → Type 0
+IsEnd f c w n p = (f n p ≡ true) × (end_at c n p ≡ w) × (end_node f c w ≡ n) × (end_port f c w ≡ p)
+
 -- A network by what its runs depend on. Where it is closed, a wire leads to the one input port at it.
 abbrev pub fabric : Circuit → Fabric
 fabric c = record {

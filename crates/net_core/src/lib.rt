@@ -7,6 +7,7 @@ mod net;
 mod ordered;
 mod renumber;
 mod spec;
+mod table;
 mod walk;
 
 pub use laws::{closed_law, network_law, ports_law, renumber_law, walk_law};

@@ -1,10 +1,12 @@
 ghost use Rattle.std.specs.Prelude.{◌≡◌, ◌≢◌, ℕ, ◌+◌, ◌<◌, ◌≤◌, ◌^◌, true, false, not, [], ◌∷◌, ◌++◌, length, IfOk, IfErr, OnOk, OnErr, MatchOption, suc, take, drop};
 ghost use Rattle.std.specs.List.{AllByRecursion};
-ghost use Rattle.net_core.specs.Wiring.{Node, Circuit, Draft, IsWired, IsOnce, IsClosed, picked, finished, replaced};
+ghost use Rattle.net_core.specs.Wiring.{Node, Circuit, Draft, IsWired, IsOnce, IsClosed, finished, replaced, count, driven, received};
+ghost use Rattle.net_core.specs.Networks.{gives, takes, IsEnd};
 ghost use Rattle.net_core.specs.Specs.{IsFormed};
-ghost use Rattle.net_core.specs.Mirror.Tallies.{Added, Roomy, Kept};
+ghost use Rattle.net_core.specs.Mirror.EndTables.{Kept};
 
 use crate::spec::{NodeSpec, directions};
+use crate::table::{Ends, NO_ENDS, ends_of, ends_with, note_ports};
 use std::alloc::{AllocError, Global};
 use std::marker::Model;
 
@@ -25,13 +27,6 @@ impl Model for Node {
     ghost coded = { Prim.hlevel (codes, node_spec.the_row.coded) };
 
     ghost view = { λ x. record { spec = x.spec; ends = x.wires.items } };
-}
-
-/// How many output ports and how many input ports are at a wire.
-#[derive(Clone, Copy)]
-struct Ends {
-    drivers: u64,
-    receivers: u64,
 }
 
 /// A wire that has not one driver and one receiver.
@@ -60,7 +55,7 @@ impl Model for Net {
 
     ghost view = { λ a. record { nodes = a.nodes.items; wires = a.wires } };
 
-    ghost use Rattle.net_core.specs.Mirror.Tallies.{Kept};
+    ghost use Rattle.net_core.specs.Mirror.EndTables.{Kept};
 
     ghost invariant = { λ a. Kept a.nodes.items a.wires a.ends.items };
 }
@@ -86,26 +81,9 @@ impl Model for NetBuilder {
 
     ghost view = { λ a. record { spec = a.spec; parts = a.parts.items; wires = a.wires } };
 
-    ghost use Rattle.net_core.specs.Mirror.Tallies.{KeptDraft};
+    ghost use Rattle.net_core.specs.Mirror.EndTables.{KeptDraft};
 
     ghost invariant = { λ a. KeptDraft a.spec a.parts.items a.wires a.ends.items };
-}
-
-/// Counts each wire at a port with these directions once more, exchanged for the environment.
-fn count_ends(ends: &mut [Ends], outs: &[bool], wires: &[u32], outside: bool)
-    requires sized { length wires.now ≡ length outs.now }
-    requires known { AllByRecursion (λ w. w < length ends.old) wires.now }
-    requires room { Roomy ends.old (length wires.now) }
-    ensures { Added ends.old ends.new (picked (not outside) outs.now wires.now) (picked outside outs.now wires.now) }
-{
-    for (port, wire) in wires.iter().enumerate() {
-        let end = &mut ends[*wire as usize];
-        if outs[port] != outside {
-            end.drivers += 1;
-        } else {
-            end.receivers += 1;
-        }
-    }
 }
 
 impl NetBuilder {
@@ -139,11 +117,7 @@ impl NetBuilder {
         ensures ok { IfOk result (λ first. (first ≡ self.old.wires) × (self.new ≡ record self.old { wires = self.old.wires + many })) }
         ensures refused { OnErr result (self.new ≡ self.old) }
     {
-        let none = Ends {
-            drivers: 0,
-            receivers: 0,
-        };
-        self.ends.resize(self.ends.len() + many as usize, none)?;
+        self.ends.resize(self.ends.len() + many as usize, NO_ENDS)?;
         let first = self.wires;
         self.wires += many;
         Ok(first)
@@ -160,10 +134,10 @@ impl NetBuilder {
     {
         let outs = directions(self.alloc, &spec)?;
         self.parts.push(Node { spec, wires })?;
-        let last = self.parts.len() - 1;
-        let node = &self.parts[last];
-        count_ends(&mut self.ends, &outs, &node.wires, false);
-        Ok(last as u32 + 1)
+        let number = self.parts.len() as u32;
+        let node = &self.parts[self.parts.len() - 1];
+        note_ports(&mut self.ends, &outs, &node.wires, number);
+        Ok(number)
     }
 
     /// The network whose environment has these wires at its ports.
@@ -179,7 +153,7 @@ impl NetBuilder {
             alloc,
         } = self;
         let outs = directions(alloc, &spec)?;
-        count_ends(&mut ends, &outs, &wires, true);
+        note_ports(&mut ends, &outs, &wires, 0);
         let mut nodes = parts;
         nodes.insert(0, Node { spec, wires })?;
         Ok(Net {
@@ -221,11 +195,7 @@ impl Net {
         ensures ok { IfOk result (λ net. net ≡ replaced self at parts.items wires) }
         ensures refused { IfErr result (λ error. error.0 ≡ self) }
     {
-        let one = Ends {
-            drivers: 1,
-            receivers: 1,
-        };
-        match vec![in alloc; one; wires as usize] {
+        match ends_with(alloc, &self.nodes, at, &parts, wires) {
             Err(error) => Err((self, error)),
             Ok(ends) => self.replace_with(at, parts, wires, ends),
         }
@@ -268,25 +238,30 @@ impl Net {
         requires closed { IsClosed (record { nodes = nodes.items; wires = wires }) }
         ensures { IfOk result (λ net. net ≡ record { nodes = nodes.items; wires = wires }) }
     {
-        let one = Ends {
-            drivers: 1,
-            receivers: 1,
-        };
-        let ends = vec![in alloc; one; wires as usize]?;
+        let ends = ends_of(alloc, &nodes, wires)?;
         Ok(Net { nodes, wires, ends })
     }
 
-    /// The closed network with these nodes in the place of its own, where each wire again has its two ends.
-    pub(crate) fn with_nodes(self, nodes: Vec<Node>) -> Net
-        requires closed { IsClosed self }
-        requires some { 0 < length nodes.items }
-        requires few { length nodes.items < 2 ^ 32 }
-        requires fit { AllByRecursion (IsWired self.wires) nodes.items }
-        requires still_closed { IsClosed (record self { nodes = nodes.items }) }
-        ensures { result ≡ record self { nodes = nodes.items } }
+    /// The node that drives the wire, and its port at the wire, counted from 0 in the order of the node's wires: an
+    /// output, and of the environment an input of its specification. For a wire with no driver, or with several, the
+    /// answer is (0, 0). It takes no memory, and the same time for each wire.
+    pub fn driver(&self, wire: u32) -> (u32, u32)
+        requires { wire < self.now.wires }
+        ensures one { count wire (driven self.now) ≡ 1 → IsEnd (gives self.now) self.now wire result.0 result.1 }
+        ensures open { count wire (driven self.now) ≢ 1 → (result.0 ≡ 0) × (result.1 ≡ 0) }
     {
-        let Net { wires, ends, .. } = self;
-        Net { nodes, wires, ends }
+        self.ends[wire as usize].driver.numbers()
+    }
+
+    /// The node that receives from the wire, and its port at the wire: an input, and of the environment an output of
+    /// its specification. For a wire with no receiver, or with several, the answer is (0, 0). It takes no memory, and
+    /// the same time for each wire.
+    pub fn receiver(&self, wire: u32) -> (u32, u32)
+        requires { wire < self.now.wires }
+        ensures one { count wire (received self.now) ≡ 1 → IsEnd (takes self.now) self.now wire result.0 result.1 }
+        ensures open { count wire (received self.now) ≢ 1 → (result.0 ≡ 0) × (result.1 ≡ 0) }
+    {
+        self.ends[wire as usize].receiver.numbers()
     }
 }
 
@@ -298,7 +273,7 @@ pub fn closed(net: &Net) -> Option<OpenPort>
 {
     for wire in 0..net.wires {
         let end = net.ends[wire as usize];
-        if end.drivers != 1 || end.receivers != 1 {
+        if !end.driver.is_one() || !end.receiver.is_one() {
             return Some(OpenPort { wire });
         }
     }

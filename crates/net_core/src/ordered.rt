@@ -31,10 +31,19 @@ fn put_in_order(alloc: Global, net: Net) -> Result<Net, (Net, AllocError)>
 {
     // What a network keeps is known from a use of one of its fields on.
     let _ = &net.nodes;
-    match ordered_nodes(alloc, &net) {
+    match ordered(alloc, &net) {
         Err(error) => Err((net, error)),
-        Ok(nodes) => Ok(net.with_nodes(nodes)),
+        Ok(ordered) => Ok(ordered),
     }
+}
+
+/// A copy of the network in walk order.
+fn ordered(alloc: Global, net: &Net) -> Result<Net, AllocError>
+    requires { IsClosed net.now }
+    ensures { IfOk result (λ ordered. ordered ≡ defined.walk net.now) }
+{
+    let nodes = ordered_nodes(alloc, net)?;
+    Net::of_nodes(alloc, nodes, net.wires)
 }
 
 /// Copies of the nodes in walk order, with the wires' new numbers.

@@ -3,7 +3,7 @@ ghost use Rattle.std.specs.List.{AllByRecursion};
 ghost use Rattle.net_core.specs.Wiring.{IsClosed, picked};
 ghost use Rattle.cmd_tree.specs.Lists.{is_in};
 ghost use Rattle.net_core.specs.Walk as defined;
-ghost use Rattle.net_core.specs.Mirror.Walking.{AreReceivers, AreWritten, Leads, IsVisited, AreSourcesListed};
+ghost use Rattle.net_core.specs.Mirror.Walking.{Leads, IsVisited, AreSourcesListed};
 ghost use Rattle.net_core.specs.Mirror.WalkStates.{walk_in, IsSized, Walks};
 
 use crate::listing::Listing;
@@ -11,34 +11,6 @@ use crate::net::{Net, Node};
 use crate::spec::{NodeSpec, directions};
 use basic_kinds::Kind;
 use std::alloc::{AllocError, Global};
-
-/// The node whose input port is at each wire of a closed network.
-fn receivers(alloc: Global, net: &Net) -> Result<Vec<u32>, AllocError>
-    requires { IsClosed net.now }
-    ensures { IfOk result (λ nodes. AreReceivers net.now nodes.items) }
-{
-    let mut table = vec![in alloc; 0u32; net.wires as usize]?;
-    for (number, node) in net.nodes.iter().enumerate() {
-        let outs = directions(alloc, &node.spec)?;
-        mark_inputs(&mut table, &outs, &node.wires, number as u32);
-    }
-    Ok(table)
-}
-
-/// Writes the node's number at the wire of each of its input ports, which are the environment's output ports
-/// where the node is the environment.
-fn mark_inputs(table: &mut [u32], outs: &[bool], wires: &[u32], number: u32)
-    requires sized { length wires.now ≡ length outs.now }
-    requires known { AllByRecursion (λ w. w < length table.old) wires.now }
-    ensures { AreWritten table.old table.new outs.now wires.now number }
-{
-    let outside = number == 0;
-    for (port, wire) in wires.iter().enumerate() {
-        if outs[port] == outside {
-            table[*wire as usize] = number;
-        }
-    }
-}
 
 /// Whether the node is a SOURCE.
 fn is_source(spec: &NodeSpec) -> bool
@@ -112,9 +84,8 @@ impl WalkState {
     }
 
     /// Visits the next wire: its receiver is listed.
-    fn visit_next(&mut self, alloc: Global, net: &Net, receivers: &[u32]) -> Result<(), AllocError>
+    fn visit_next(&mut self, alloc: Global, net: &Net) -> Result<(), AllocError>
         requires closed { IsClosed net.now }
-        requires receivers { AreReceivers net.now receivers.now }
         requires walks { Walks net.now self.old }
         requires left { self.old.visited < length self.old.numbered.numbers }
         ensures walks { OnOk result (Walks net.now self.new) }
@@ -126,35 +97,27 @@ impl WalkState {
         let _ = &net.nodes;
         let wire = self.numbered.numbers()[self.visited];
         self.visited += 1;
-        self.list_node(alloc, net, receivers[wire as usize])
+        self.list_node(alloc, net, net.receiver(wire).0)
     }
 
     /// Visits wires until each that has a number is visited.
-    fn visit_all(&mut self, alloc: Global, net: &Net, receivers: &[u32]) -> Result<(), AllocError>
+    fn visit_all(&mut self, alloc: Global, net: &Net) -> Result<(), AllocError>
         requires closed { IsClosed net.now }
-        requires receivers { AreReceivers net.now receivers.now }
         requires walks { Walks net.now self.old }
         ensures walks { OnOk result (Walks net.now self.new) }
         ensures leads { OnOk result (Leads net.now (walk_in self.old) (walk_in self.new)) }
         ensures visited { OnOk result (IsVisited (walk_in self.new)) }
     {
         while self.visited < self.numbered.numbers().len() {
-            self.visit_next(alloc, net, receivers)?;
+            self.visit_next(alloc, net)?;
         }
         Ok(())
     }
 
     /// Lists the node that is next where no wire is left to visit, unless it is listed already, and goes on
     /// until again no wire is left.
-    fn go_on_at(
-        &mut self,
-        alloc: Global,
-        net: &Net,
-        receivers: &[u32],
-        node: u32,
-    ) -> Result<(), AllocError>
+    fn go_on_at(&mut self, alloc: Global, net: &Net, node: u32) -> Result<(), AllocError>
         requires closed { IsClosed net.now }
-        requires receivers { AreReceivers net.now receivers.now }
         requires walks { Walks net.now self.old }
         requires visited { IsVisited (walk_in self.old) }
         requires inside { node < length net.now.nodes }
@@ -165,18 +128,12 @@ impl WalkState {
         ensures listed { OnOk result (is_in node self.new.listed.numbers ≡ true) }
     {
         self.list_node(alloc, net, node)?;
-        self.visit_all(alloc, net, receivers)
+        self.visit_all(alloc, net)
     }
 
     /// Goes on at each SOURCE that is left.
-    fn go_on_at_sources(
-        &mut self,
-        alloc: Global,
-        net: &Net,
-        receivers: &[u32],
-    ) -> Result<(), AllocError>
+    fn go_on_at_sources(&mut self, alloc: Global, net: &Net) -> Result<(), AllocError>
         requires closed { IsClosed net.now }
-        requires receivers { AreReceivers net.now receivers.now }
         requires walks { Walks net.now self.old }
         requires visited { IsVisited (walk_in self.old) }
         ensures walks { OnOk result (Walks net.now self.new) }
@@ -185,28 +142,22 @@ impl WalkState {
     {
         for (number, node) in net.nodes.iter().enumerate() {
             if is_source(&node.spec) {
-                self.go_on_at(alloc, net, receivers, number as u32)?;
+                self.go_on_at(alloc, net, number as u32)?;
             }
         }
         Ok(())
     }
 
     /// Goes on at each node that is left, to the end of the walk.
-    fn go_on_at_all(
-        &mut self,
-        alloc: Global,
-        net: &Net,
-        receivers: &[u32],
-    ) -> Result<(), AllocError>
+    fn go_on_at_all(&mut self, alloc: Global, net: &Net) -> Result<(), AllocError>
         requires closed { IsClosed net.now }
-        requires receivers { AreReceivers net.now receivers.now }
         requires walks { Walks net.now self.old }
         requires visited { IsVisited (walk_in self.old) }
         requires sources { AreSourcesListed net.now (walk_in self.old) }
         ensures { OnOk result (walk_in self.new ≡ defined.walk_of net.now) }
     {
         for number in 0..net.nodes.len() {
-            self.go_on_at(alloc, net, receivers, number as u32)?;
+            self.go_on_at(alloc, net, number as u32)?;
         }
         Ok(())
     }
@@ -216,11 +167,10 @@ impl WalkState {
         requires { IsClosed net.now }
         ensures { IfOk result (λ walk. walk_in walk ≡ defined.walk_of net.now) }
     {
-        let receivers = receivers(alloc, net)?;
         let mut walk = WalkState::new(alloc, net)?;
-        walk.visit_all(alloc, net, &receivers)?;
-        walk.go_on_at_sources(alloc, net, &receivers)?;
-        walk.go_on_at_all(alloc, net, &receivers)?;
+        walk.visit_all(alloc, net)?;
+        walk.go_on_at_sources(alloc, net)?;
+        walk.go_on_at_all(alloc, net)?;
         Ok(walk)
     }
 }

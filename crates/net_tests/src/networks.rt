@@ -51,6 +51,19 @@ fn lists_the_join_before_the_fork(rt: HostRuntime) -> Result<(), Fail> {
 }
 
 #[test]
+fn tells_the_two_ends_of_each_wire(rt: HostRuntime) -> Result<(), Fail> {
+    let net = fork_before_join(rt.alloc())?;
+    assert_eq!(rt; net.wires, 6);
+    let drivers = [(0, 0), (0, 1), (0, 2), (1, 1), (1, 2), (2, 3)];
+    let receivers = [(2, 0), (2, 1), (2, 2), (0, 3), (0, 4), (1, 0)];
+    for wire in 0..6 {
+        assert_eq!(rt; net.driver(wire), drivers[wire as usize]);
+        assert_eq!(rt; net.receiver(wire), receivers[wire as usize]);
+    }
+    Ok(())
+}
+
+#[test]
 fn orders_a_long_chain_in_time(rt: HostRuntime) -> Result<(), Fail> {
     let alloc = rt.alloc();
     let net = ordered(&rt, alloc, chain(alloc, 60_000)?)?;
@@ -73,6 +86,9 @@ fn an_open_network_names_its_least_open_wire(rt: HostRuntime) -> Result<(), Fail
     );
     let net = builder.finish(vec![in alloc; 0, 2]?)?;
     assert_eq!(rt; closed(&net), Some(OpenPort { wire: 1 }));
+    assert_eq!(rt; net.wires, 3);
+    assert_eq!(rt; net.driver(1), (1, 1));
+    assert_eq!(rt; net.receiver(1), (0, 0));
     Ok(())
 }
 

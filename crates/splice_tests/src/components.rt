@@ -308,8 +308,7 @@ fn with_parts(
 ) -> Result<Net, AllocError> {
     assert!(rt; closed(net).is_none());
     assert_eq!(rt; parts.len() + 1, net.nodes.len());
-    let fits = fits_each(alloc, net, parts)?;
-    assert!(rt; fits);
+    assert!(rt; fits_each(net, parts));
     splice_all(alloc, net, parts)
 }
 
@@ -350,7 +349,7 @@ fn fits_beside_a_loop(
     } else {
         [Some(part), None]
     };
-    fits_each(alloc, &net, &parts)
+    Ok(fits_each(&net, &parts))
 }
 
 #[test]

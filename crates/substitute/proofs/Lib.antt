@@ -8,13 +8,11 @@ pub mod Places
 pub mod Ranks
 pub mod Spliced
 pub mod SplicedNet
-pub mod Numbering
+pub mod Outer
 pub mod Ports
 pub mod Tables
 pub mod OnePass
 pub mod Turns
 pub mod Passes
 pub mod AllSpliced
-pub mod Stamps
-pub mod Looked
 pub mod Looks

@@ -3,7 +3,7 @@ use Rattle.std.proofs.Common.{refl, ◌≡◌, ◌⊎◌, inl, inr, ℕ, zero, s
 use Rattle.std.proofs.lemmas.Bool.{cases_Bool, cases_eq, cases_order}
 use Rattle.substitute.specs.Splice.{rank}
 
-rank_next : (f : ℕ → Bool) (n : ℕ) → f n ≡ true → rank f (suc n) ≡ suc (rank f n)
+pub rank_next : (f : ℕ → Bool) (n : ℕ) → f n ≡ true → rank f (suc n) ≡ suc (rank f n)
 unfolding rank
 rank_next f n e = rw e refl
 
@@ -32,11 +32,11 @@ rank_same f n m e g same = elim (cases_order n m) [
   | inr (inr h) ↦ (let lt = rank_below f m n h g in absurd (omega arith))
 ]
 
-rank_stays : (f : ℕ → Bool) (n : ℕ) → f n ≡ false → rank f (suc n) ≡ rank f n
+pub rank_stays : (f : ℕ → Bool) (n : ℕ) → f n ≡ false → rank f (suc n) ≡ rank f n
 unfolding rank
 rank_stays f n e = rw e refl
 
-rank_zero : (f : ℕ → Bool) → rank f zero ≡ 0
+pub rank_zero : (f : ℕ → Bool) → rank f zero ≡ 0
 unfolding rank
 rank_zero f = refl
 

@@ -1,3 +1,3 @@
 -- Mirrors of what the code has in hand: nobody has to believe them.
-pub mod Tables
+pub mod Outer
 pub mod OnePass

@@ -1,11 +1,11 @@
 //! The components of a network with their numbers in the network where it takes the place of a node.
 ghost use Rattle.std.specs.Prelude.{◌≡◌, ℕ, ◌+◌, ◌<◌, ◌^◌, length, map, drop, slice_get, slice_index, IfOk};
-ghost use Rattle.std.specs.List.{AllByRecursion, range_with_len};
+ghost use Rattle.std.specs.List.{AllByRecursion};
 ghost use Rattle.net_core.specs.Wiring.{moved};
 ghost use Rattle.net_core.specs.Walk.{ends_at};
 ghost use Rattle.substitute.specs.Splice.{FitsAt, renumber_at, rank, is_inner};
 
-use crate::renumber::{Numbers, fill_numbers, fused_wires, moved_nodes};
+use crate::renumber::{moved_nodes, new_numbers};
 use net_core::{Net, Node};
 use std::alloc::{AllocError, Global};
 
@@ -40,18 +40,6 @@ pub fn new_parts(alloc: Global, ends: &[u32], wires: u32, sub: &Net) -> Result<P
         nodes,
         wires: numbers.wires,
     })
-}
-
-/// The number of each wire of `sub` in the whole, and how many wires the whole has.
-fn new_numbers(alloc: Global, ends: &[u32], wires: u32, sub: &Net) -> Result<Numbers, AllocError>
-    requires fitting { FitsAt ends.now sub.now }
-    requires few { wires + sub.now.wires < 2 ^ 31 }
-    ensures table { IfOk result (λ numbers. numbers.table.items
-        ≡ map (renumber_at ends.now wires sub.now) (range_with_len 0 sub.now.wires)) }
-    ensures wires { IfOk result (λ numbers. numbers.wires ≡ wires + rank (is_inner sub.now) sub.now.wires) }
-{
-    let fused = fused_wires(alloc, wires_of(sub, 0), ends, sub.wires)?;
-    fill_numbers(alloc, fused.as_slice(), wires)
 }
 
 /// Copies of the components of a network, with the table's numbers for their wires.

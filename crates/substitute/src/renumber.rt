@@ -1,58 +1,11 @@
-ghost use Rattle.std.specs.Prelude.{◌≡◌, ℕ, ◌+◌, ◌<◌, ◌≤◌, ◌^◌, length, map, drop, slice_index, None, IfOk, MatchOption};
+ghost use Rattle.std.specs.Prelude.{◌≡◌, ℕ, ◌+◌, ◌<◌, ◌^◌, length, map, slice_index, IsTrue, IfOk, MatchOption};
 ghost use Rattle.std.specs.List.{AllByRecursion, range_with_len};
-ghost use Rattle.net_core.specs.Wiring.{Node, IsWired, count, moved};
-ghost use Rattle.substitute.specs.Refusals.{IsNone, IsLeast};
-ghost use Rattle.substitute.specs.Mirror.Tables.{written, filled, after_filled};
+ghost use Rattle.net_core.specs.Wiring.{Node, IsWired, IsClosed, moved};
+ghost use Rattle.substitute.specs.Splice.{FitsAt, renumber_at, rank, is_inner};
+ghost use Rattle.substitute.specs.Mirror.Outer.{IsOuter};
 
-use net_core::{Node, moved_node};
+use net_core::{Net, Node, moved_node, network_law};
 use std::alloc::{AllocError, Global};
-
-/// How often each wire stands in the list.
-fn end_counts(alloc: Global, ends: &[u32], wires: u32) -> Result<Vec<usize>, AllocError>
-    requires { AllByRecursion (λ w. w < wires) ends.now }
-    ensures { IfOk result (λ counts. (length counts.items ≡ wires)
-        × ((w : ℕ) → w < wires → slice_index counts.items w ≡ count w ends.now)) }
-{
-    let mut counts = vec![in alloc; 0usize; wires as usize]?;
-    for wire in ends {
-        counts[*wire as usize] += 1;
-    }
-    Ok(counts)
-}
-
-/// The least wire that stands in the list more than once.
-pub fn repeated(alloc: Global, ends: &[u32], wires: u32) -> Result<Option<u32>, AllocError>
-    requires { AllByRecursion (λ w. w < wires) ends.now }
-    ensures { IfOk result (λ found. MatchOption found (IsNone (λ w. 1 < count w ends.now) wires)
-        (λ w. IsLeast (λ w. 1 < count w ends.now) wires w)) }
-{
-    let counts = end_counts(alloc, ends, wires)?;
-    for wire in 0..wires {
-        if counts[wire as usize] > 1 {
-            return Ok(Some(wire));
-        }
-    }
-    Ok(None)
-}
-
-/// For each wire the number that stands in the second list where the wire stands in the first.
-pub fn fused_wires(
-    alloc: Global,
-    ends: &[u32],
-    others: &[u32],
-    wires: u32,
-) -> Result<Vec<Option<u32>>, AllocError>
-    requires sized { length others.now ≡ length ends.now }
-    requires known { AllByRecursion (λ w. w < wires) ends.now }
-    ensures { IfOk result (λ fused. fused.items
-        ≡ map (λ w. written ends.now others.now w None) (range_with_len 0 wires)) }
-{
-    let mut fused = vec![in alloc; None; wires as usize]?;
-    for (port, wire) in ends.iter().enumerate() {
-        fused[*wire as usize] = Some(others[port]);
-    }
-    Ok(fused)
-}
 
 /// The new number of each wire, and how many wires there then are.
 #[derive(Drop)]
@@ -61,17 +14,25 @@ pub struct Numbers {
     pub wires: u32,
 }
 
-/// A wire that has no number yet takes the next one, from the first one on.
-pub fn fill_numbers(alloc: Global, fused: &[Option<u32>], first: u32) -> Result<Numbers, AllocError>
-    requires { first + length fused.now < 2 ^ 32 }
-    ensures table { IfOk result (λ numbers. numbers.table.items ≡ filled fused.now first) }
-    ensures wires { IfOk result (λ numbers. numbers.wires ≡ after_filled fused.now first) }
+/// The number of each wire of `sub` in the whole, and how many wires the whole has, where `sub` takes the place of a
+/// node with these wires at its ports, in a network of so many wires. The wires that are not fused take the next numbers.
+pub fn new_numbers(
+    alloc: Global,
+    ends: &[u32],
+    wires: u32,
+    sub: &Net,
+) -> Result<Numbers, AllocError>
+    requires fitting { FitsAt ends.now sub.now }
+    requires few { wires + sub.now.wires < 2 ^ 31 }
+    ensures table { IfOk result (λ numbers. numbers.table.items
+        ≡ map (renumber_at ends.now wires sub.now) (range_with_len 0 sub.now.wires)) }
+    ensures wires { IfOk result (λ numbers. numbers.wires ≡ wires + rank (is_inner sub.now) sub.now.wires) }
 {
     let mut table = Vec::new(alloc);
-    let mut next = first;
-    for number in fused {
-        match number {
-            Some(wire) => table.push(*wire)?,
+    let mut next = wires;
+    for wire in 0..sub.wires {
+        match outer_port(sub, wire) {
+            Some(port) => table.push(ends[port as usize])?,
             None => {
                 table.push(next)?;
                 next += 1;
@@ -79,6 +40,21 @@ pub fn fill_numbers(alloc: Global, fused: &[Option<u32>], first: u32) -> Result<
         }
     }
     Ok(Numbers { table, wires: next })
+}
+
+/// The environment's port at the wire, where one end of the wire is at the environment.
+fn outer_port(net: &Net, wire: u32) -> Option<u32>
+    requires closed { IsClosed net.now }
+    requires known { wire < net.now.wires }
+    ensures { MatchOption result (IsTrue (is_inner net.now wire)) (λ port. IsOuter net.now wire port) }
+{
+    network_law(net);
+    let (driver, output) = net.driver(wire);
+    if driver == 0 {
+        return Some(output);
+    }
+    let (receiver, input) = net.receiver(wire);
+    if receiver == 0 { Some(input) } else { None }
 }
 
 /// Copies of the nodes with the table's numbers for their wires.

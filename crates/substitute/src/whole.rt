@@ -8,7 +8,6 @@ ghost use Rattle.substitute.specs.Refusals.{IsSame, IsAround, IsNone, IsLeast, R
 ghost use Rattle.net_core.specs.Walk.{ends_at};
 
 use crate::parts::{new_parts, wires_of};
-use crate::renumber::repeated;
 use net_core::{Net, network_law, same_spec};
 use std::alloc::{AllocError, Global};
 
@@ -63,7 +62,7 @@ fn put_in_place(alloc: Global, net: Net, at: u32, sub: &Net) -> Result<Net, (Net
     ensures refused { IfErr result (λ refusal. refusal.0 ≡ net) }
     ensures reason { IfErr result (λ refusal. Refuses net at sub.now refusal.1) }
 {
-    if let Some(refusal) = obstacle(alloc, &net, at, sub) {
+    if let Some(refusal) = obstacle(&net, at, sub) {
         return Err((net, refusal));
     }
     match new_parts(alloc, wires_of(&net, at), net.wires, sub) {
@@ -76,7 +75,7 @@ fn put_in_place(alloc: Global, net: Net, at: u32, sub: &Net) -> Result<Net, (Net
 }
 
 /// What keeps `sub` from taking the place of the node.
-fn obstacle(alloc: Global, net: &Net, at: u32, sub: &Net) -> Option<SpliceRefusal>
+fn obstacle(net: &Net, at: u32, sub: &Net) -> Option<SpliceRefusal>
     requires closed_net { IsClosed net.now }
     requires closed_sub { IsClosed sub.now }
     requires component { 0 < at }
@@ -88,15 +87,13 @@ fn obstacle(alloc: Global, net: &Net, at: u32, sub: &Net) -> Option<SpliceRefusa
     if !is_same(net, at, sub) {
         return Some(SpliceRefusal::SpecDiffers);
     }
-    match around(alloc, sub, 0) {
-        Err(_) => Some(SpliceRefusal::NoMemory),
-        Ok(Some(wire)) => Some(SpliceRefusal::ThroughWire { wire }),
-        Ok(None) => match around(alloc, net, at) {
-            Err(_) => Some(SpliceRefusal::NoMemory),
-            Ok(Some(wire)) => Some(SpliceRefusal::SelfWire { wire }),
-            Ok(None) => None,
-        },
+    if let Some(wire) = around(sub, 0) {
+        return Some(SpliceRefusal::ThroughWire { wire });
     }
+    if let Some(wire) = around(net, at) {
+        return Some(SpliceRefusal::SelfWire { wire });
+    }
+    None
 }
 
 /// Whether the node is specified as the network's environment is.
@@ -108,11 +105,40 @@ pub fn is_same(net: &Net, at: u32, sub: &Net) -> bool
 }
 
 /// The least wire that goes from the node to itself.
-pub fn around(alloc: Global, net: &Net, node: u32) -> Result<Option<u32>, AllocError>
+pub fn around(net: &Net, node: u32) -> Option<u32>
+    requires closed { IsClosed net.now }
+    ensures { MatchOption result (IsNone (IsAround net.now node) net.now.wires)
+        (λ w. IsLeast (IsAround net.now node) net.now.wires w) }
+{
+    for wire in 0..net.wires {
+        if is_around(net, node, wire) {
+            return Some(wire);
+        }
+    }
+    None
+}
+
+/// Whether a wire goes from the node to itself. The time is linear in the node's ports.
+pub fn has_around(net: &Net, node: u32) -> bool
     requires closed { IsClosed net.now }
     requires inside { node < length net.now.nodes }
-    ensures { IfOk result (λ found. MatchOption found (IsNone (IsAround net.now node) net.now.wires)
-        (λ w. IsLeast (IsAround net.now node) net.now.wires w)) }
+    ensures { IsTrue result ↔ ((w : ℕ) × (w < net.now.wires) × IsAround net.now node w) }
 {
-    repeated(alloc, wires_of(net, node), net.wires)
+    network_law(net);
+    let wires = wires_of(net, node);
+    for wire in wires {
+        if is_around(net, node, *wire) {
+            return true;
+        }
+    }
+    false
+}
+
+/// Whether the wire goes from the node to itself.
+fn is_around(net: &Net, node: u32, wire: u32) -> bool
+    requires closed { IsClosed net.now }
+    requires known { wire < net.now.wires }
+    ensures { IsTrue result ↔ IsAround net.now node wire }
+{
+    net.driver(wire).0 == node && net.receiver(wire).0 == node
 }

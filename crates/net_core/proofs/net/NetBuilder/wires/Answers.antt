@@ -1,5 +1,5 @@
 use Rattle.std.proofs.Common.{◌≡◌, length, rules, vec_len, ◌∙◌}
-use Rattle.net_core.specs.Mirror.Tallies.{no_ends}
+use Rattle.net_core.specs.Mirror.EndTables.{no_ends}
 use Rattle.net_core.proofs.Drafts.{more_wires, resized}
 use Rattle.net_core.proofs.net.NetBuilder.wires.Goals as goal
 
