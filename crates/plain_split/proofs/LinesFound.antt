@@ -1,5 +1,5 @@
 -- Wires of a network of one wait in order, found by name.
-use Rattle.std.proofs.Common.{rules, ◌≡◌, ◌⊎◌, inl, inr, ℕ, zero, suc, ◌+◌, ◌<◌, ◌≤◌, Bool, true, false, true≢false, ◌||◌, cond, List, [], ◌∷◌, ◌++◌, map, length, get_or, take, Option, Some, None, refl, sym, ap, ◌∙◌, subst, arith, ltb}
+use Rattle.std.proofs.Common.{rules, ◌≡◌, inl, inr, ℕ, zero, suc, ◌+◌, ◌<◌, ◌≤◌, Bool, true, false, true≢false, ◌||◌, cond, List, [], ◌∷◌, ◌++◌, map, length, get_or, take, Some, None, refl, sym, ap, ◌∙◌, subst, arith, ltb}
 use Rattle.std.specs.Prelude.{not}
 use Rattle.std.specs.List.{list_any, position, position_or_len}
 use Rattle.std.proofs.lemmas.Bool.{ltb-false}
@@ -11,7 +11,6 @@ use native.Mathlib.Decide.{ℕ_discrete}
 use Rattle.plain_split.specs.declared.paths.Wire.{Wire}
 use Rattle.plain_split.specs.contracts.paths.WirePartialEq.TheImpl.{eq-value}
 use Rattle.plain_split.specs.SharedPaths.{place}
-use Rattle.plain_split.specs.OneWait as web
 use Rattle.plain_split.specs.OneWait.{same_wire, wire_discrete}
 use Rattle.plain_split.specs.Mirror.OneWaitTables.{wire_of}
 

@@ -1,5 +1,5 @@
 -- What rows have that are filled link by link.
-use Rattle.std.proofs.Common.{◌≡◌, ◌≢◌, ◌⊎◌, inl, inr, ℕ, zero, suc, ◌+◌, ◌<◌, ◌≤◌, Bool, true, false, true≢false, ◌||◌, cond, List, [], ◌∷◌, ◌++◌, map, length, get_or, replicate, refl, sym, ap, ◌∙◌, subst, arith, append-nil, append_assoc, eq-eqb, ne_eqb, eqb-true}
+use Rattle.std.proofs.Common.{◌≡◌, inl, inr, ℕ, suc, ◌+◌, ◌<◌, Bool, true, false, true≢false, ◌||◌, cond, List, [], ◌∷◌, ◌++◌, map, length, get_or, replicate, refl, sym, ap, ◌∙◌, subst, arith, append-nil, append_assoc, eq-eqb, ne_eqb}
 use Rattle.std.specs.Prelude.{filter, nat_eq, not}
 use Rattle.std.specs.List.{AllByRecursion, range_with_len, position_or_len}
 use Rattle.std.proofs.Math.ListN.{set}
@@ -38,9 +38,9 @@ pub rows_filled : (ls : List Link) (many : ℕ) → with_links ls (replicate man
 rows_filled ls many = ext_get_or [] (with_links ls (replicate many [])) (map (tos ls) (range_with_len 0 many))
     (links_long ls (replicate many []) ∙ empty_long ∙ sym (length-map-range_with_len (tos ls) 0 many))
     (λ k low.
-      let inside : k < many = omega (arith, low, links_long ls (replicate many []), empty_long) in
-      row_filled k ls (replicate many []) (omega (arith, inside, empty_long)) ∙ ap (λ xs. xs ++ tos ls k) (get_or-replicate many k [] [] inside)
-      ∙ sym (get_or-map-range_with_len (tos ls) 0 many k k [] inside (omega arith)))
+    let inside : k < many = omega (arith, low, links_long ls (replicate many []), empty_long) in
+    row_filled k ls (replicate many []) (omega (arith, inside, empty_long)) ∙ ap (λ xs. xs ++ tos ls k) (get_or-replicate many k [] [] inside)
+    ∙ sym (get_or-map-range_with_len (tos ls) 0 many k k [] inside (omega arith)))
   where
     empty_long : length (replicate {A = List ℕ} many []) ≡ many
     empty_long = length-replicate many []

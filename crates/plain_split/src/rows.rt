@@ -13,7 +13,7 @@ pub struct Link {
 }
 
 /// So many rows with nothing in them.
-pub fn no_rows(alloc: Global, many: usize) -> Result<Vec<Vec<u32>>, AllocError>
+pub fn no_rows<T: Drop>(alloc: Global, many: usize) -> Result<Vec<Vec<T>>, AllocError>
     ensures { IfOk result (λ it. map (λ v. v.items) it.items ≡ replicate many []) }
 {
     let mut rows = Vec::new(alloc);

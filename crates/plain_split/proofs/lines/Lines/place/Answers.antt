@@ -1,4 +1,4 @@
-use Rattle.std.proofs.Common.{ap, ◌∙◌, sym, map, length}
+use Rattle.std.proofs.Common.{ap, ◌∙◌, sym, map}
 use Rattle.plain_split.specs.SharedPaths.{place}
 use Rattle.plain_split.specs.OneWait.{same_wire}
 use Rattle.plain_split.specs.Mirror.OneWaitTables.{wire_of}
