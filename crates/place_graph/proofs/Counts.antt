@@ -18,6 +18,12 @@ module _ {A : Type 0} where
       by true e = lt-ltb 0 (1 + times p xs) (omega arith)
       by false e = e
 
+  pub count_more : (p : A → Bool) (x : A) (xs : List A) → count_by p (x ∷ xs) ≡ cond (p x) (1 + count_by p xs) (count_by p xs)
+  unfolding times
+  count_more p x xs =
+      let same : (ys : List A) → times p ys ≡ count_by p ys = is_count_by (times p) p refl (λ y ys. refl) in
+      sym (same (x ∷ xs)) ∙ ap (λ k. cond (p x) (1 + k) k) (same xs)
+
   pub count_any : (p : A → Bool) (xs : List A) → nat_lt 0 (count_by p xs) ≡ list_any p xs
   unfolding times
   count_any p xs = ap (nat_lt 0) (sym (is_count_by (times p) p refl (λ x ys. refl) xs)) ∙ times_any p xs

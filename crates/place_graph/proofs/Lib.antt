@@ -6,6 +6,7 @@ pub mod BurstSets
 pub mod InOrder
 pub mod LegBounds
 pub mod Counts
+pub mod InTurn
 pub mod Ranges
 pub mod Turns
 pub mod Charted

@@ -1,2 +1,3 @@
 -- What the proofs of the code need, and nobody has to believe.
 pub mod Numbers
+pub mod InTurn

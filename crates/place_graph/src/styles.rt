@@ -1,7 +1,8 @@
 //! In which style the network of a process is built.
-ghost use Rattle.std.specs.Prelude.{◌≡◌};
+ghost use Rattle.std.specs.Prelude.{◌≡◌, ◌<◌, true};
 ghost use Rattle.std.specs.List.{list_any};
 ghost use Rattle.place_graph.specs.Style.{entries, is_exit, has_entry, one_entry_each, in_rounds, style_of};
+ghost use Rattle.place_graph.specs.Mirror.InTurn.{act_after, are_in_turn};
 
 use crate::wait_graph::{Act, Cross, Start, WaitGraph};
 
@@ -39,7 +40,54 @@ fn in_rounds(g: &WaitGraph) -> bool
         && has_entry(g.start, g.acts.as_slice(), g.crosses.as_slice())
 }
 
+// Where a process runs in rounds, its crossings lead to the acts in turn, and one pass sees it.
 fn one_entry_each(acts: usize, crosses: &[Cross]) -> bool
+    ensures { result ≡ one_entry_each acts crosses.now }
+{
+    in_turn(acts, crosses) || each_has_one_entry(acts, crosses)
+}
+
+/// Whether the crossings lead to all acts in turn, from any one on.
+fn in_turn(acts: usize, crosses: &[Cross]) -> bool
+    ensures { result ≡ true → one_entry_each acts crosses.now ≡ true }
+{
+    let [first, ..] = crosses else {
+        return false;
+    };
+    let first = first.act as usize;
+    if crosses.len() != acts {
+        return false;
+    }
+    if first >= acts {
+        return false;
+    }
+    are_in_turn(acts, first, crosses)
+}
+
+/// Whether the crossings lead to the acts in turn, from this one on.
+fn are_in_turn(acts: usize, first: usize, crosses: &[Cross]) -> bool
+    requires { first < acts }
+    ensures { result ≡ are_in_turn acts first crosses.now }
+{
+    let mut next = first;
+    for cross in crosses {
+        if cross.act as usize != next {
+            return false;
+        }
+        next = act_after(acts, next);
+    }
+    true
+}
+
+fn act_after(acts: usize, act: usize) -> usize
+    requires { act < acts }
+    ensures is { result ≡ act_after acts act }
+    ensures there { result < acts }
+{
+    if act + 1 == acts { 0 } else { act + 1 }
+}
+
+fn each_has_one_entry(acts: usize, crosses: &[Cross]) -> bool
     ensures { result ≡ one_entry_each acts crosses.now }
 {
     for act in 0..acts {

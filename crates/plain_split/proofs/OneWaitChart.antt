@@ -785,7 +785,7 @@ module _ (L : List Leg) (out : ℕ → Bool) (T : List ℕ → Type 0) (g : Link
   inputs_once (Spread n) h = ((λ a. a), tt)
   inputs_once (Shows a) h = distinct_map (λ n. Put n a) (λ i j e. cc) (g.givers a) (listed.givers_once a)
 
-  lines_once : Distinct (lines g)
+  pub lines_once : Distinct (lines g)
   lines_once = distinct_both givens (joined (inputs g) (parts g))
       (distinct_map Give (λ i j e. cc) (filter (is_given g) (range_with_len 0 g.names)) (distinct_filter (is_given g) (range_with_len 0 g.names)
       (subst Distinct (map_id (range_with_len 0 g.names)) (distinct_row (λ i. i) (λ i j e. e) g.names))))

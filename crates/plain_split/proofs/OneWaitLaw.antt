@@ -16,7 +16,7 @@ use Rattle.net_core.specs.Specs.{outs_of, May, IsFormed, gives_symbol}
 use Rattle.net_core.specs.declared.spec.NodeSpec.TheVariants.{Cmd}
 use Rattle.net_laws.specs.Charts.{charted}
 use Rattle.net_laws.specs.Implementing.{Implements}
-use Rattle.net_laws.proofs.Among.{Among}
+use Rattle.net_laws.proofs.Among.{Distinct, Among}
 use Rattle.place_graph.specs.declared.leg.Leg.{Leg}
 use Rattle.place_graph.specs.declared.wait_graph.WaitGraph.{WaitGraph}
 use Rattle.place_graph.specs.declared.styles.SplitStyle.TheVariants.{OneWait, Rounds, Token}
@@ -50,7 +50,7 @@ use Rattle.plain_split.proofs.SharedLists.{all_by_among}
 use Rattle.plain_split.proofs.OneWaitCounts.{IsOneWait}
 use Rattle.plain_split.proofs.OneWaitTraces.{Drawn}
 use Rattle.plain_split.proofs.OneWaitRoutes.{Listed}
-use Rattle.plain_split.proofs.OneWaitChart.{IsNarrow, one_right}
+use Rattle.plain_split.proofs.OneWaitChart.{IsNarrow, lines_once, one_right}
 use Rattle.plain_split.proofs.OneWaitDrawn.{among_in, in_among, one_among, among_one, slice_low, drawn, listed}
 
 -- ---- the style
@@ -169,6 +169,12 @@ module _ (out : ℕ → Bool) (p : Proc) (proc : IsProc p) (body : IsTrue (is_so
       one_right (legs p) out (TraceOf p) g (burst_number (legs p)) no one (played out p proc fair agree) is_drawn is_listed (narrow few_places few_names) s formed directions traces
       (trace_empty p proc) (trace_front p)
 
+  pub one_wait_lines : places_of_proc p < 2 ^ 27 → names < 2 ^ 27 → (s : NodeSpec) → IsFormed s → outs_of s ≡ map out (range_with_len 0 names)
+      → ((t : List ℕ) → May s t ↔ TraceOf p t) → Distinct (lines g)
+  one_wait_lines few_places few_names s formed directions traces =
+      lines_once (legs p) out (TraceOf p) g (burst_number (legs p)) no one (played out p proc fair agree) is_drawn is_listed (narrow few_places few_names) s formed directions traces
+      (trace_empty p proc) (trace_front p)
+
   pub wires_few : length (lines g) ≤ names + names + places_of_proc p + (places_of_proc p + places_of_proc p) + places_of_proc p
   wires_few = omega (
     arith,
@@ -209,6 +215,14 @@ module _ (c : Command) (p : Proc) (h : HasOneWait c p) where
   unfolding May
   one_command_right = one_wait_right directions p proc body h.fair h.directions h.sets h.style (length c.names) symbols_known
       (omega (arith, places)) (omega (arith, c.valid.few_symbols)) (Cmd c) tt refl traces
+
+  pub command_lines_once : Distinct (lines (links_of c p))
+  unfolding May
+  command_lines_once = one_wait_lines directions p proc body h.fair h.directions h.sets h.style (length c.names) symbols_known
+      (omega (arith, places)) (omega (arith, c.valid.few_symbols)) (Cmd c) tt refl traces
+
+  pub command_outs_once : (n : ℕ) → Distinct ((links_of c p).outs n)
+  command_outs_once = (is_listed directions p proc body h.fair h.directions h.sets h.style (length c.names) symbols_known).outs_once
 
   pub one_command_wires : (one_wait_net c p).wires < 2 ^ 20
   one_command_wires = omega (arith, wires_few directions p proc body h.fair h.directions h.sets h.style (length c.names) symbols_known, places, c.valid.few_symbols)

@@ -68,11 +68,6 @@ among_in a (x ∷ xs) (inr h) = at (nat_eq a x) (among_in a xs h)
     at true e = refl
     at false e = e
 
-pub single_is : (xs : List ℕ) → is_single xs ≡ true → xs ≡ sole xs ∷ []
-single_is [] h = absurd (true≢false (sym h))
-single_is (x ∷ []) h = refl
-single_is (x ∷ y ∷ xs) h = absurd (true≢false (sym h))
-
 pub single_one : (xs : List ℕ) (a : ℕ) → is_single xs ≡ true → Among a xs → a ≡ sole xs
 single_one [] a h i = absurd i
 single_one (x ∷ []) a h (inl e) = e

@@ -1,9 +1,9 @@
 -- Tables that grow by one.
-use Rattle.std.proofs.Common.{◌≡◌, ℕ, zero, suc, ◌+◌, ◌/◌, ◌<◌, ◌≤◌, replicate, List, [], ◌∷◌, ◌++◌, map, length, get_or, drop, refl, sym, ap, ◌∙◌, arith}
+use Rattle.std.proofs.Common.{◌≡◌, ℕ, zero, suc, ◌+◌, ◌/◌, ◌<◌, ◌≤◌, List, [], ◌∷◌, ◌++◌, map, length, get_or, drop, refl, sym, ap, ◌∙◌, arith}
 use Rattle.std.specs.List.{AllByRecursion, range_with_len}
 use Rattle.std.proofs.Math.ListN.{set}
 use Rattle.std.proofs.Math.Seq.{drop-cons}
-use Rattle.std.proofs.lemmas.List.{map-set, get_or-map, length-map, replicate-append-replicate}
+use Rattle.std.proofs.lemmas.List.{map-set, get_or-map, length-map}
 use Rattle.std.proofs.lemmas.List.FromFn.{length-map-range_with_len, get_or-map-range_with_len}
 use Rattle.plain_split.specs.RoundsNet.{pow}
 use Rattle.plain_split.proofs.RoundsDeal.{pow_some}
@@ -35,9 +35,6 @@ half_power rest (suc g) e low = (g, refl, omega arith)
 pub one_power : (rest f : ℕ) → rest ≡ pow f → rest ≤ 1 → f ≡ 0
 one_power rest zero e low = refl
 one_power rest (suc f) e low = absurd (omega (arith, pow_some f))
-
-pub none_more : {A : Type 0} (n : ℕ) (a : A) → replicate n a ++ a ∷ [] ≡ replicate (n + 1) a
-none_more n a = replicate-append-replicate n 1 a
 
 -- a table of rows, and one of its rows
 pub table_long : {V X : Type 0} (f : V → X) (F : ℕ → X) (vs : List V) (m : ℕ) → map f vs ≡ map F (range_with_len 0 m) → length vs ≡ m

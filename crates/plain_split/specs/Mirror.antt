@@ -2,3 +2,4 @@
 pub mod OneWaitTables
 pub mod RoundsGives
 pub mod RoundsTables
+pub mod Rows

@@ -3,6 +3,7 @@ ghost use Rattle.std.specs.Prelude.{◌≡◌, ℕ, ◌<◌, ◌^◌, [], map, l
 ghost use Rattle.std.specs.List.{AllByRecursion};
 ghost use Rattle.plain_split.specs.Mirror.RoundsGives.{with_outs, with_acts};
 
+use crate::rows::no_rows;
 use std::alloc::{AllocError, Global};
 
 /// An output of an act, by its place among the outputs of this act.
@@ -29,16 +30,6 @@ fn add_gives(gives: &mut [Vec<Give>], act: u32, outs: &[u32]) -> Result<(), Allo
     Ok(())
 }
 
-fn none(alloc: Global, names: u32) -> Result<Vec<Vec<Give>>, AllocError>
-    ensures { IfOk result (λ it. map (λ v. v.items) it.items ≡ replicate names []) }
-{
-    let mut gives = Vec::new(alloc);
-    while gives.len() < names as usize {
-        gives.push(Vec::new(alloc))?;
-    }
-    Ok(gives)
-}
-
 /// The outputs that give each symbol, in the order of their acts.
 pub fn all_gives(alloc: Global, acts: &[Vec<u32>], names: u32) -> Result<Vec<Vec<Give>>, AllocError>
     requires known { AllByRecursion (λ v. AllByRecursion (λ a. a < names) v.items) acts.now }
@@ -46,7 +37,7 @@ pub fn all_gives(alloc: Global, acts: &[Vec<u32>], names: u32) -> Result<Vec<Vec
     requires few_acts { length acts.now < 2 ^ 32 }
     ensures { IfOk result (λ it. map (λ v. v.items) it.items ≡ with_acts 0 (map (λ v. v.items) acts.now) (replicate names [])) }
 {
-    let mut gives = none(alloc, names)?;
+    let mut gives = no_rows(alloc, names as usize)?;
     for (act, outs) in acts.iter().enumerate() {
         add_gives(gives.as_mut_slice(), act as u32, outs.as_slice())?;
     }

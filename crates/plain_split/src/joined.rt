@@ -1,84 +1,62 @@
 //! How the graph of a process with one wait is joined: tables of what leads where.
-ghost use Rattle.std.specs.Prelude.{◌≡◌, ℕ, ◌<◌, ◌^◌, nat_eq, List, [], map, filter, length, get_or, IfOk};
-ghost use Rattle.std.specs.List.{range_with_len, position_or_len};
-ghost use Rattle.cmd_tree.specs.Lists.{is_in};
-ghost use Rattle.place_graph.specs.Graph.{has_sym};
+ghost use Rattle.std.specs.Prelude.{◌≡◌, ℕ, ◌<◌, ◌^◌, [], map, length, get_or, IfOk};
+ghost use Rattle.std.specs.List.{range_with_len};
 ghost use Rattle.place_graph.specs.GraphTraces.{numbers_of};
-ghost use Rattle.plain_split.specs.OneWait.{links, outs_at, is_begin};
+ghost use Rattle.net_laws.proofs.Among.{Distinct};
+ghost use Rattle.plain_split.specs.OneWait.{links, outs_at};
 ghost use Rattle.plain_split.specs.Mirror.OneWaitTables.{links_by, tables_of};
 
+use crate::rows::{Link, back_links, firsts, rows_of};
 use cmd_tree::Sym;
 use place_graph::{Act, Cross, Start, WaitGraph};
 use sqlite_items::Items;
 use std::alloc::{AllocError, Global};
 use std::marker::Model;
 
-/// The bursts that lead to an act, in the order of the crossings.
-pub fn entries(alloc: Global, crosses: &[Cross], act: u32) -> Result<Vec<u32>, AllocError>
-    ensures { IfOk result (λ it. it.items
-        ≡ map (λ c. c.burst) (filter (λ c. nat_eq c.act act) crosses.now)) }
+/// From each act to the bursts that lead to it, in the order of the crossings.
+fn act_links(alloc: Global, crosses: &[Cross]) -> Result<Vec<Link>, AllocError>
+    ensures { IfOk result (λ it. it.items ≡ map (λ c. record { from = c.act; to = c.burst }) crosses.now) }
 {
-    let mut bursts = Vec::new(alloc);
-    for cross in crosses {
-        if cross.act == act {
-            bursts.push(cross.burst)?;
-        }
-    }
-    Ok(bursts)
+    crosses
+        .iter()
+        .map(|cross| Link {
+            from: cross.act,
+            to: cross.burst,
+        })
+        .collect(alloc)
 }
 
-/// The acts that a burst leads to, in the order of the crossings.
-pub fn leads(alloc: Global, crosses: &[Cross], burst: u32) -> Result<Vec<u32>, AllocError>
-    ensures { IfOk result (λ it. it.items
-        ≡ map (λ c. c.act) (filter (λ c. nat_eq c.burst burst) crosses.now)) }
+/// From each burst to the acts that it leads to, in the order of the crossings.
+fn burst_links(alloc: Global, crosses: &[Cross]) -> Result<Vec<Link>, AllocError>
+    ensures { IfOk result (λ it. it.items ≡ map (λ c. record { from = c.burst; to = c.act }) crosses.now) }
 {
-    let mut acts = Vec::new(alloc);
-    for cross in crosses {
-        if cross.burst == burst {
-            acts.push(cross.act)?;
-        }
-    }
-    Ok(acts)
-}
-
-/// Whether a symbol is one of these.
-pub fn has(symbols: &[Sym], symbol: u32) -> bool
-    ensures { result ≡ is_in symbol (numbers_of symbols.now) }
-{
-    for other in symbols {
-        if other.0 == symbol {
-            return true;
-        }
-    }
-    false
+    crosses
+        .iter()
+        .map(|cross| Link {
+            from: cross.burst,
+            to: cross.act,
+        })
+        .collect(alloc)
 }
 
 /// The bursts that lead to each act.
-pub fn all_entries(alloc: Global, graph: &WaitGraph) -> Result<Vec<Vec<u32>>, AllocError>
-    requires { length graph.now.acts < 2 ^ 32 }
+fn all_entries(alloc: Global, graph: &WaitGraph) -> Result<Vec<Vec<u32>>, AllocError>
     ensures { (names : ℕ) → IfOk result (λ it. map (λ es. es.items) it.items
         ≡ map (links graph.now names).entries (range_with_len 0 (length graph.now.acts))) }
 {
-    let mut all = Vec::new(alloc);
-    for act in 0..graph.acts.len() as u32 {
-        let found = entries(alloc, graph.crosses.as_slice(), act)?;
-        all.push(found)?;
-    }
-    Ok(all)
+    let links = act_links(alloc, graph.crosses.as_slice())?;
+    let rows = rows_of(alloc, graph.acts.len(), links.as_slice())?;
+    Ok(rows)
 }
 
 /// The acts that each burst leads to.
-pub fn all_leads(alloc: Global, graph: &WaitGraph) -> Result<Vec<Vec<u32>>, AllocError>
-    requires { length graph.now.bursts < 2 ^ 32 }
+fn all_leads(alloc: Global, graph: &WaitGraph) -> Result<Vec<Vec<u32>>, AllocError>
     ensures { (names : ℕ) → IfOk result (λ it. map (λ ns. ns.items) it.items
         ≡ map (links graph.now names).leads (range_with_len 0 (length graph.now.bursts))) }
 {
-    let mut all = Vec::new(alloc);
-    for burst in 0..graph.bursts.len() as u32 {
-        let found = leads(alloc, graph.crosses.as_slice(), burst)?;
-        all.push(found)?;
-    }
-    Ok(all)
+    let links = burst_links(alloc, graph.crosses.as_slice())?;
+    let rows = rows_of(alloc, graph.bursts.len(), links.as_slice())?;
+    Ok(rows)
 }
 
 /// The numbers of symbols.
@@ -93,7 +71,7 @@ pub fn numbers(alloc: Global, symbols: &[Sym]) -> Result<Vec<u32>, AllocError>
 }
 
 /// The symbols of each burst.
-pub fn all_symbols(alloc: Global, bursts: &[Items<Sym>]) -> Result<Vec<Vec<u32>>, AllocError>
+fn all_symbols(alloc: Global, bursts: &[Items<Sym>]) -> Result<Vec<Vec<u32>>, AllocError>
     ensures { IfOk result (λ it. map (λ xs. xs.items) it.items ≡ map numbers_of bursts.now) }
 {
     let mut all = Vec::new(alloc);
@@ -116,68 +94,37 @@ pub fn all_outs(alloc: Global, acts: &[Act]) -> Result<Vec<Vec<u32>>, AllocError
     Ok(all)
 }
 
-/// The acts that give a symbol.
-pub fn givers(alloc: Global, acts: &[Act], symbol: u32) -> Result<Vec<u32>, AllocError>
-    requires { length acts.now < 2 ^ 32 }
-    ensures { IfOk result (λ it. it.items
-        ≡ filter (λ n. is_in symbol (numbers_of (get_or (map (λ y. y.outs) acts.now) n []))) (range_with_len 0 (length acts.now))) }
-{
-    let mut found = Vec::new(alloc);
-    for act in 0..acts.len() {
-        if has(acts[act].outs.as_slice(), symbol) {
-            found.push(act as u32)?;
-        }
-    }
-    Ok(found)
-}
-
-/// The acts that give each symbol.
-pub fn all_givers(alloc: Global, graph: &WaitGraph, names: u32) -> Result<Vec<Vec<u32>>, AllocError>
-    requires { length graph.now.acts < 2 ^ 32 }
+/// The acts that give each symbol, where these are the outputs of the acts.
+fn all_givers(
+    alloc: Global,
+    graph: &WaitGraph,
+    outs: &[Vec<u32>],
+    names: u32,
+) -> Result<Vec<Vec<u32>>, AllocError>
+    requires acts { length graph.now.acts < 2 ^ 32 }
+    requires outs { map (λ v. v.items) outs.now ≡ map (λ y. numbers_of y.outs) graph.now.acts }
+    requires once { (act : ℕ) → Distinct (outs_at graph.now act) }
     ensures { IfOk result (λ it. map (λ ns. ns.items) it.items ≡ map (links graph.now names).givers (range_with_len 0 names)) }
 {
-    let mut all = Vec::new(alloc);
-    for symbol in 0..names {
-        let found = givers(alloc, graph.acts.as_slice(), symbol)?;
-        all.push(found)?;
-    }
-    Ok(all)
+    let links = back_links(alloc, outs)?;
+    let rows = rows_of(alloc, names as usize, links.as_slice())?;
+    Ok(rows)
 }
 
-/// Whether a burst has the symbol.
-fn holds(burst: &[Sym], symbol: u32) -> bool
-    ensures { result ≡ has_sym (record { 0 = symbol }) burst.now }
-{
-    for other in burst {
-        if symbol == other.0 {
-            return true;
-        }
-    }
-    false
-}
-
-/// The burst of a symbol: the first that has it, or how many there are.
-pub fn home(bursts: &[Items<Sym>], symbol: u32) -> u32
-    requires { length bursts.now < 2 ^ 32 }
-    ensures { result ≡ position_or_len (has_sym (record { 0 = symbol })) bursts.now }
-{
-    for (index, burst) in bursts.iter().enumerate() {
-        if holds(burst.as_slice(), symbol) {
-            return index as u32;
-        }
-    }
-    bursts.len() as u32
-}
-
-/// The burst of each symbol.
-pub fn homes(alloc: Global, graph: &WaitGraph, names: u32) -> Result<Vec<u32>, AllocError>
-    requires { length graph.now.bursts < 2 ^ 32 }
+/// The burst of each symbol: the first that has it, or how many there are.
+fn homes(
+    alloc: Global,
+    graph: &WaitGraph,
+    symbols: &[Vec<u32>],
+    names: u32,
+) -> Result<Vec<u32>, AllocError>
+    requires bursts { length graph.now.bursts < 2 ^ 32 }
+    requires symbols { map (λ v. v.items) symbols.now ≡ map numbers_of graph.now.bursts }
     ensures { IfOk result (λ it. it.items ≡ map (links graph.now names).home (range_with_len 0 names)) }
 {
-    let mut all = Vec::new(alloc);
-    for symbol in 0..names {
-        all.push(home(graph.bursts.as_slice(), symbol))?;
-    }
+    let links = back_links(alloc, symbols)?;
+    let rows = rows_of(alloc, names as usize, links.as_slice())?;
+    let all = firsts(alloc, rows.as_slice(), graph.bursts.len() as u32)?;
     Ok(all)
 }
 
@@ -225,16 +172,19 @@ impl LinkTables {
     pub fn new(alloc: Global, graph: &WaitGraph, names: u32) -> Result<LinkTables, AllocError>
         requires acts { length graph.now.acts < 2 ^ 32 }
         requires bursts { length graph.now.bursts < 2 ^ 32 }
+        requires once { (act : ℕ) → Distinct (outs_at graph.now act) }
         ensures { IfOk result (λ it. it ≡ tables_of graph.now names) }
     {
+        let symbols = all_symbols(alloc, graph.bursts.as_slice())?;
+        let outs = all_outs(alloc, graph.acts.as_slice())?;
         Ok(LinkTables {
-            symbols: all_symbols(alloc, graph.bursts.as_slice())?,
             leads: all_leads(alloc, graph)?,
             entries: all_entries(alloc, graph)?,
-            outs: all_outs(alloc, graph.acts.as_slice())?,
-            homes: homes(alloc, graph, names)?,
-            givers: all_givers(alloc, graph, names)?,
+            homes: homes(alloc, graph, symbols.as_slice(), names)?,
+            givers: all_givers(alloc, graph, outs.as_slice(), names)?,
             start: graph.start,
+            symbols,
+            outs,
         })
     }
 

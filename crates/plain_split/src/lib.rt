@@ -5,6 +5,7 @@ mod by_style;
 mod gives;
 mod joined;
 mod laws;
+mod lines;
 mod listed;
 mod named;
 mod one_wait_net;
@@ -14,6 +15,7 @@ mod round_nodes;
 mod round_numbers;
 mod round_parts;
 mod rounds_net;
+mod rows;
 
 pub use by_style::plain_net;
 pub use laws::{one_wait_law, plain_law, rounds_law};

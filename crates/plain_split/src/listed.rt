@@ -1,12 +1,13 @@
 //! The components and wires of a network of one wait in the order of their numbers.
 ghost use Rattle.std.specs.Prelude.{◌≡◌, ◌<◌, ◌^◌, [], ◌∷◌, ◌++◌, map, filter, length, IfOk};
 ghost use Rattle.std.specs.List.{range_with_len};
-ghost use Rattle.plain_split.specs.SharedPaths.{joined, place};
+ghost use Rattle.plain_split.specs.SharedPaths.{joined};
 ghost use Rattle.plain_split.specs.OneWait as web;
-ghost use Rattle.plain_split.specs.OneWait.{inputs, is_kept, is_given, same_wire};
+ghost use Rattle.plain_split.specs.OneWait.{inputs, is_kept, is_given};
 ghost use Rattle.plain_split.specs.Mirror.OneWaitTables.{links_by, wire_of, name_of, number_by, IsSmall};
 
 use crate::joined::LinkTables;
+use crate::lines::Lines;
 use crate::named::inputs;
 use crate::paths::{Part, Wire, is_kept, last};
 use std::alloc::{AllocError, Global};
@@ -135,31 +136,11 @@ pub fn lines(alloc: Global, tables: &LinkTables, parts: &[Part]) -> Result<Vec<W
     Ok(wires)
 }
 
-/// Whether it is the same wire.
-fn same(a: Wire, b: Wire) -> bool
-    ensures { result ≡ same_wire (wire_of a) (wire_of b) }
-{
-    a == b
-}
-
-/// How many wires stand before this one.
-fn place(lines: &[Wire], wire: Wire) -> u32
-    requires { length lines.now < 2 ^ 32 }
-    ensures { result ≡ place same_wire (map wire_of lines.now) (wire_of wire) }
-{
-    for (index, line) in lines.iter().enumerate() {
-        if same(wire, *line) {
-            return index as u32;
-        }
-    }
-    lines.len() as u32
-}
-
 /// The numbers of wires.
 pub fn ends(
     alloc: Global,
     tables: &LinkTables,
-    lines: &[Wire],
+    lines: &Lines,
     wires: &[Wire],
 ) -> Result<Vec<u32>, AllocError>
     requires small { IsSmall (links_by tables.now) }
@@ -168,7 +149,7 @@ pub fn ends(
 {
     let mut ends = Vec::new(alloc);
     for wire in wires {
-        ends.push(place(lines, last(tables, *wire)))?;
+        ends.push(lines.place(last(tables, *wire)))?;
     }
     Ok(ends)
 }

@@ -3,6 +3,7 @@ ghost use Rattle.std.specs.Prelude.{◌≡◌, ◌+◌, ◌<◌, ◌^◌, ◌∷
 ghost use Rattle.cmd_tree.specs.declared.tree.Proc.{Proc};
 ghost use Rattle.place_graph.specs.Graph.{graph_of};
 ghost use Rattle.net_core.specs.declared.spec.NodeSpec.TheVariants.{Cmd};
+ghost use Rattle.net_laws.proofs.Among.{Distinct};
 ghost use Rattle.net_laws.specs.Charts.{charted};
 ghost use Rattle.net_laws.specs.Implementing.{Implements};
 ghost use Rattle.plain_split.specs.OneWait as web;
@@ -11,15 +12,16 @@ ghost use Rattle.plain_split.specs.OneWaitCommands.{HasOneWait, one_wait_net};
 ghost use Rattle.plain_split.specs.Mirror.OneWaitTables.{links_by, wire_of, node_by, part_by, IsSmall};
 
 use crate::joined::LinkTables;
+use crate::lines::Lines;
 use crate::listed::{ends, lines, parts};
 use crate::named::{kind, outer_ports, ports};
-use crate::paths::{Part, Wire};
+use crate::paths::Part;
 use cmd_tree::Command;
 use net_core::{Net, Node, NodeSpec};
 use place_graph::WaitGraph;
 use std::alloc::{AllocError, Global};
 
-fn node(alloc: Global, tables: &LinkTables, lines: &[Wire], part: Part) -> Result<Node, AllocError>
+fn node(alloc: Global, tables: &LinkTables, lines: &Lines, part: Part) -> Result<Node, AllocError>
     requires small { IsSmall (links_by tables.now) }
     requires few { length lines.now < 2 ^ 32 }
     ensures { IfOk result (λ it. it ≡ part_by (links_by tables.now) (map wire_of lines.now) part) }
@@ -35,7 +37,7 @@ fn node(alloc: Global, tables: &LinkTables, lines: &[Wire], part: Part) -> Resul
 fn inner_nodes(
     alloc: Global,
     tables: &LinkTables,
-    lines: &[Wire],
+    lines: &Lines,
     parts: &[Part],
 ) -> Result<Vec<Node>, AllocError>
     requires small { IsSmall (links_by tables.now) }
@@ -54,7 +56,7 @@ fn inner_nodes(
 fn nodes(
     alloc: Global,
     tables: &LinkTables,
-    lines: &[Wire],
+    lines: &Lines,
     parts: &[Part],
     spec: Command,
 ) -> Result<Vec<Node>, AllocError>
@@ -79,13 +81,15 @@ fn nodes(
 fn net_of(alloc: Global, tables: &LinkTables, spec: Command) -> Result<Net, AllocError>
     requires small { IsSmall (links_by tables.now) }
     requires few { length (web.lines (links_by tables.now)) < 2 ^ 20 }
+    requires once { Distinct (web.lines (links_by tables.now)) }
     requires right { Implements (charted (one_chart (Cmd spec) (links_by tables.now))) (Cmd spec) }
     ensures { IfOk result (λ net. net ≡ charted (one_chart (Cmd spec) (links_by tables.now))) }
 {
     let parts = parts(alloc, tables)?;
-    let lines = lines(alloc, tables, parts.as_slice())?;
-    let nodes = nodes(alloc, tables, lines.as_slice(), parts.as_slice(), spec)?;
-    Net::of_nodes(alloc, nodes, lines.len() as u32)
+    let wires = lines(alloc, tables, parts.as_slice())?;
+    let lines = Lines::of(alloc, wires.as_slice())?;
+    let nodes = nodes(alloc, tables, &lines, parts.as_slice(), spec)?;
+    Net::of_nodes(alloc, nodes, wires.len() as u32)
 }
 
 /// The network of a command of one process with one wait, whose graph this is.

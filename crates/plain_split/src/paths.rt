@@ -7,7 +7,7 @@ ghost use Rattle.plain_split.specs.Mirror.OneWaitTables.{links_by, wire_of, name
 use crate::joined::LinkTables;
 
 /// A wire by its name.
-#[derive(Debug, Clone, Copy, PartialEq, Eq)]
+#[derive(Debug, Clone, Copy, PartialEq, Eq, Hash)]
 pub enum Wire {
     /// A symbol that is taken.
     Take(u32),

@@ -1,9 +1,7 @@
-use Rattle.std.proofs.Common.{nat_eq, map, filter, ap, ◌∙◌}
-use Rattle.plain_split.proofs.JoinedSteps.{table_more}
+use Rattle.std.proofs.Common.{◌∙◌}
+use Rattle.plain_split.proofs.OneWaitRows.{leads_filled}
 use Rattle.plain_split.proofs.joined.all_leads.Goals as goal
 
-pub loop-burst-preserved : goal.loop-burst-preserved
-loop-burst-preserved c =
-    ap (λ xs. map (λ es. es.items) xs) c.in_ok-push.ensures.items
-    ∙ table_more (λ es. es.items) (λ b. map (λ x. x.act) (filter (λ x. nat_eq x.burst b) c.args.graph.now.crosses)) c.loop-burst.all.items c.in_ok-found.found c.loop-burst.burst c.loop-burst.invariant
-    (c.in_ok-found.ensures ∙ ap (λ cs. map (λ x. x.act) (filter (λ x. nat_eq x.burst c.loop-burst.burst) cs)) c.as_slice.ensures)
+pub returns : goal.returns
+returns c = λ names.
+    leads_filled c.args.graph.now names _ _ _ c.len.result c.in_ok-rows.ensures c.len.ensures (c.as_slice-2.ensures.value ∙ c.in_ok-links.ensures) c.as_slice.ensures

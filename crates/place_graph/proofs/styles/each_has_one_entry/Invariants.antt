@@ -1,7 +1,7 @@
 use Rattle.std.proofs.Common.{◌≡◌, ℕ, ◌+◌, nat_eq}
 use Rattle.std.specs.List.{list_all, range_with_len}
 use Rattle.place_graph.specs.Style.{entries, one_entry_each}
-use Rattle.place_graph.proofs.styles.one_entry_each.Given as goal
+use Rattle.place_graph.proofs.styles.each_has_one_entry.Given as goal
 
 abbrev pub invariant-loop-act : goal.invariant-loop-act
 invariant-loop-act l = (left : ℕ) → l.act + left ≡ l.acts

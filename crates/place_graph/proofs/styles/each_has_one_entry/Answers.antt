@@ -1,7 +1,7 @@
 use Rattle.std.proofs.Common.{suc, ◌+◌, ◌-◌, ◌&&◌, nat_eq, sym, ap, ◌∙◌, arith, eq-eqb, ne_eqb}
 use Rattle.std.specs.List.{list_all, range_with_len}
 use Rattle.place_graph.specs.Style.{entries}
-use Rattle.place_graph.proofs.styles.one_entry_each.Goals as goal
+use Rattle.place_graph.proofs.styles.each_has_one_entry.Goals as goal
 
 pub returns-then-entries-ne1 : goal.returns-then-entries-ne1
 returns-then-entries-ne1 c =
