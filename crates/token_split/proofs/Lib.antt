@@ -1,0 +1,6 @@
+pub mod TokenWeb
+pub mod TokenRules
+pub mod TokenSums
+pub mod TokenCounts
+pub mod TokenTraces
+pub mod TokenExamples
