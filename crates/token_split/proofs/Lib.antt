@@ -3,4 +3,5 @@ pub mod TokenRules
 pub mod TokenSums
 pub mod TokenCounts
 pub mod TokenTraces
+pub mod TokenExact
 pub mod TokenExamples
