@@ -4,4 +4,5 @@ pub mod TokenSums
 pub mod TokenCounts
 pub mod TokenTraces
 pub mod TokenExact
+pub mod TokenRoutes
 pub mod TokenExamples
