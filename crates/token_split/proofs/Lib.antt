@@ -5,4 +5,5 @@ pub mod TokenCounts
 pub mod TokenTraces
 pub mod TokenExact
 pub mod TokenRoutes
+pub mod TokenMeet
 pub mod TokenExamples
