@@ -6,4 +6,6 @@ pub mod TokenTraces
 pub mod TokenExact
 pub mod TokenRoutes
 pub mod TokenMeet
+pub mod TokenParts
+pub mod TokenCharted
 pub mod TokenExamples

@@ -44,7 +44,7 @@ total_filter {A = A} z (x ∷ xs) test f b u h = total_first (length xs) (λ i. 
 
 -- ---- a DW
 
-abbrev nowhere : Crossing
+abbrev pub nowhere : Crossing
 nowhere = record { wait = 0; burst = 0; act = 0 }
 
 -- The shape has these rows and columns, and these crossings in this order.
