@@ -8,4 +8,5 @@ pub mod TokenRoutes
 pub mod TokenMeet
 pub mod TokenParts
 pub mod TokenCharted
+pub mod TokenLists
 pub mod TokenExamples
