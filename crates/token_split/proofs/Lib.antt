@@ -9,4 +9,6 @@ pub mod TokenMeet
 pub mod TokenParts
 pub mod TokenCharted
 pub mod TokenLists
+pub mod TokenStart
+pub mod TokenDrawn
 pub mod TokenExamples

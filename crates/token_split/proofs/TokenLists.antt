@@ -253,7 +253,7 @@ local_before part a b (inr (e, low)) apart r c =
     or_true true = refl
     or_true false = refl
 
-all_mapped : {A B : Type 0} (test : B → Bool) (f : A → B) (xs : List A) → ((x : A) → Among x xs → test (f x) ≡ true) → list_all test (map f xs) ≡ true
+pub all_mapped : {A B : Type 0} (test : B → Bool) (f : A → B) (xs : List A) → ((x : A) → Among x xs → test (f x) ≡ true) → list_all test (map f xs) ≡ true
 all_mapped test f [] h = refl
 all_mapped test f (x ∷ xs) h = both_and (test (f x)) (list_all test (map f xs)) (h x (inl refl)) (all_mapped test f xs (λ y a. h y (inr a)))
 
