@@ -11,4 +11,5 @@ pub mod TokenCharted
 pub mod TokenLists
 pub mod TokenStart
 pub mod TokenDrawn
+pub mod TokenWires
 pub mod TokenExamples
