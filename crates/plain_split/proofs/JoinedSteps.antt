@@ -40,7 +40,7 @@ pub same_tables : {a a2 b b2 c c2 d d2 f f2 : List (List ℕ)} {e e2 : List ℕ}
     (record { symbols = a2; leads = b2; entries = c2; outs = d2; homes = e2; givers = f2; start = s })
 same_tables s p q r t u v = rw (p, q, r, t, u, v) refl
 
-joined_both : {A B : Type 0} (f : A → List B) (xs ys : List A) → joined f (xs ++ ys) ≡ joined f xs ++ joined f ys
+pub joined_both : {A B : Type 0} (f : A → List B) (xs ys : List A) → joined f (xs ++ ys) ≡ joined f xs ++ joined f ys
 joined_both f [] ys = refl
 joined_both f (x ∷ xs) ys = ap (λ zs. f x ++ zs) (joined_both f xs ys) ∙ sym (append_assoc (f x) (joined f xs) (joined f ys))
 

@@ -18,4 +18,7 @@ mod rounds_net;
 mod rows;
 
 pub use by_style::plain_net;
+pub use gives::{Give, all_gives};
+pub use joined::{all_outs, all_symbols};
 pub use laws::{one_wait_law, plain_law, rounds_law};
+pub use paths::many;
