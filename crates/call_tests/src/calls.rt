@@ -34,7 +34,7 @@ pub fn call(
         files.push((name, Vec::from_slice(alloc, content.as_bytes())?))?;
     }
     let mut shelf = MemShelf::new(files, Vec::new(alloc));
-    let mut out = MemSink::new(alloc, 200_000, fails)?;
+    let mut out = MemSink::new(alloc, 400_000, fails)?;
     let mut say = MemSink::new(alloc, 1000, Vec::new(alloc))?;
     let outcome = run(alloc, &words, &mut shelf, &mut out, &mut say);
     Ok(Ran { outcome, out, say })
@@ -44,7 +44,7 @@ const USAGE: &str =
     "usage: dic compile wide|two F, check F, count wide|two F, run N S [count|peak], drive N SEED STEPS, rules F, big N\n";
 
 // Words, the content of F, what a call with them puts on out and says, and the status.
-const CALLS: [(&str, Option<&str>, &str, &str, u8); 14] = [
+const CALLS: [(&str, Option<&str>, &str, &str, u8); 13] = [
     (
         "compile wide F",
         Some("main := pref*[a?;b!]."),
@@ -97,13 +97,6 @@ const CALLS: [(&str, Option<&str>, &str, &str, u8); 14] = [
     (
         "compile wide F",
         Some("main := pref*[a?;c!]||pref*[b?;c!]."),
-        "",
-        "refused form\n",
-        1,
-    ),
-    (
-        "compile wide F",
-        Some("main := pref*[a?;b!;c?;d!]."),
         "",
         "refused form\n",
         1,

@@ -1,4 +1,4 @@
-//! Whole calls that compile one process with one wait or in rounds.
+//! Whole calls that compile one process.
 use crate::calls::{Ran, call, repeated};
 use di_top::Outcome;
 use std::alloc::Global;
@@ -29,6 +29,18 @@ fn compiles_processes(rt: HostRuntime) -> Result<(), Fail> {
         (
             "pref[b!;*[a?;c!]]",
             "port b! 0\nport a? 1\nport c! 2\nWIRE 1 > 2\nSOURCE > 0\nend\n",
+        ),
+        (
+            "pref*[a?;b!;c?;d!]",
+            "port a? 0\nport b! 1\nport c? 2\nport d! 3\nC 8 0 > 4\nC 6 2 > 5\nFORK 4 > 1 6\nFORK 5 > 3 7\nIWIRE 7 > 8\nend\n",
+        ),
+        (
+            "pref[a?;b!;*[a?;c!]]",
+            "port a? 0\nport b! 1\nport c! 2\nDW 2 1 0.0 1.0 : 8 7 0 > 3 4\nFORK 3 > 1 5\nFORK 4 > 2 6\nMERGE 5 6 > 7\nSOURCE > 8\nend\n",
+        ),
+        (
+            "pref*[a?;b!;a?;b!;a?;c!]",
+            "port a? 0\nport b! 1\nport c! 2\nDW 3 1 0.0 1.0 2.0 : 11 7 9 0 > 3 4 5\nFORK 3 > 6 7\nFORK 4 > 8 9\nFORK 5 > 2 10\nMERGE 6 8 > 1\nIWIRE 10 > 11\nend\n",
         ),
     ];
     for (command, lines) in rows {
@@ -86,5 +98,18 @@ fn compiles_many_rounds(rt: HostRuntime) -> Result<(), Fail> {
     assert_eq!(rt; lines_of(ran.out.bytes(), b"TOGGLE "), 4095);
     assert_eq!(rt; lines_of(ran.out.bytes(), b"MERGE "), 1);
     assert_eq!(rt; lines_of(ran.out.bytes(), b""), 4102);
+    Ok(())
+}
+
+// 4,095 rounds need a token: a DW with a row for each, a FORK for each, the MERGE of b and the IWIRE of the begin.
+#[test]
+fn compiles_many_rounds_with_a_token(rt: HostRuntime) -> Result<(), Fail> {
+    let alloc = rt.alloc();
+    let text = repeated(alloc, "main := pref*[a?;b!", ";a?;b!", 4094, "].")?;
+    let ran = compile(alloc, text.as_str())?;
+    assert_eq!(rt; ran.outcome, Outcome::Done);
+    assert_eq!(rt; lines_of(ran.out.bytes(), b"DW 4095 1 "), 1);
+    assert_eq!(rt; lines_of(ran.out.bytes(), b"FORK "), 4095);
+    assert_eq!(rt; lines_of(ran.out.bytes(), b""), 4104);
     Ok(())
 }

@@ -13,7 +13,7 @@ use Rattle.basic_kinds.specs.Sums.{wide_sum}
 use Rattle.di_grammar.specs.Grants.{IsGrant}
 use Rattle.di_grammar.specs.Admitted.{Admitted}
 use Rattle.place_graph.specs.declared.styles.SplitStyle.{SplitStyle}
-use Rattle.place_graph.specs.declared.styles.SplitStyle.TheVariants.{OneWait, Rounds}
+use Rattle.place_graph.specs.declared.styles.SplitStyle.TheVariants.{OneWait, Rounds, Token}
 use Rattle.place_graph.specs.declared.wait_graph.WaitGraph.{WaitGraph}
 use Rattle.place_graph.specs.Drawable.{IsDrawable}
 use Rattle.place_graph.specs.Graph.{graph_of}
@@ -29,6 +29,7 @@ use Rattle.net_core.specs.Networks.{directions_at, spec_of}
 use Rattle.net_laws.specs.Implementing.{Implements}
 use Rattle.plain_split.specs.OneWaitSums.{is_component}
 use Rattle.plain_split.specs.PlainNet.{IsPlain, HasPlain, HasCounted}
+use Rattle.token_split.specs.TokenNet.{NeedsToken}
 use Rattle.di_compile.specs.declared.build.Basis.TheVariants.{Wide}
 use Rattle.di_compile.specs.Compiling.{IsBuilt, IsInOrderOf, IsNetworkOf}
 use Rattle.di_compile.proofs.Alone.{no_grant, one_sum}
@@ -44,6 +45,10 @@ ports_many c (Some x) e =
     let is : x.spec ≡ Cmd c = cc in
     length-map (outs_of x.spec) not ∙ ap (λ s. length (outs_of s)) is ∙ length-map-range_with_len (gives_symbol (marks_of_all c.procs)) 0 (length c.names)
 
+-- a token is needed
+pub token_style : (s : SplitStyle) (g h : WaitGraph) → s ≡ Token → s ≡ style_of g → g ≡ h → style_of h ≡ Token
+token_style s g h e is same = sym (ap style_of same) ∙ sym is ∙ e
+
 -- one wait, or rounds
 pub plain_style : (s : SplitStyle) (g h : WaitGraph) → (s ≡ OneWait) ⊎ ((k : ℕ) × (s ≡ Rounds k)) → s ≡ style_of g → g ≡ h → IsPlain (style_of h)
 plain_style s g h (inl e) is same = subst IsPlain (sym e ∙ is ∙ ap style_of same) tt
@@ -53,11 +58,14 @@ module _ (c : Command) (p : Proc) (admitted : Admitted c.procs) (alone : c.procs
   pub has_plain : IsPlain (style_of (graph_of p)) → HasPlain c p
   has_plain plain = record { alone = alone; admitted = admitted; other = no_grant c.procs p admitted alone; plain = plain }
 
+  pub needs_token : style_of (graph_of p) ≡ Token → NeedsToken c p
+  needs_token style = record { alone = alone; admitted = admitted; other = no_grant c.procs p admitted alone; style = style }
+
   pub is_drawable : IsDrawable p
   is_drawable = (subst (Each (λ p. (IsGrant p → ⊥) → IsDrawable p)) alone (drawables c.procs admitted c.names c.valid)).0 (no_grant c.procs p admitted alone)
 
-  pub is_built : IsPlain (style_of (graph_of p)) → IsBuilt Wide c.procs
-  is_built plain = record { wide = refl; admitted = admitted; process = p; alone = alone; plain = plain }
+  pub is_built : IsBuilt Wide c.procs
+  is_built = record { wide = refl; admitted = admitted; process = p; alone = alone }
 
   pub network_of : (n d : Circuit) → Implements n (Cmd c) → n.wires < 2 ^ 20 → HasCounted c p n → IsInOrderOf n d → IsNetworkOf c d
   network_of n d right few kinds o = record {

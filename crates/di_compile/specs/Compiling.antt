@@ -5,10 +5,7 @@ use Rattle.cmd_tree.specs.declared.command.Command.{Command}
 use Rattle.basic_kinds.specs.Sorts.{Sort, how_many}
 use Rattle.basic_kinds.specs.Sums.{wide_sum}
 use Rattle.di_grammar.specs.Admitted.{Admitted, IsBroken}
-use Rattle.place_graph.specs.Graph.{graph_of}
-use Rattle.place_graph.specs.Style.{style_of}
 use Rattle.place_graph.specs.Sums.{command_sum}
-use Rattle.plain_split.specs.PlainNet.{IsPlain}
 use Rattle.plain_split.specs.OneWaitSums.{is_component}
 use Rattle.net_core.specs.declared.spec.NodeSpec.TheVariants.{Cmd}
 use Rattle.net_core.specs.Wiring.{Circuit, Node}
@@ -20,14 +17,13 @@ use Rattle.di_compile.specs.declared.build.Basis.TheVariants.{Wide}
 use Rattle.di_compile.specs.declared.refusal.CompileRefusal.{CompileRefusal}
 use Rattle.di_compile.specs.declared.refusal.CompileRefusal.TheVariants.{Broken, NotThisForm, NoMemory}
 
--- A network of these processes is built in this basis: they are an admitted command of one process, which has
--- one wait or is in rounds, and the basis is wide.
+-- A network of these processes is built in this basis: they are an admitted command of one process, and the basis
+-- is wide.
 pub record IsBuilt (basis : Basis) (ps : List Proc) : Type 0 where
   pub wide : basis ≡ Wide
   pub admitted : Admitted ps
   pub process : Proc
   pub alone : ps ≡ process ∷ []
-  pub plain : IsPlain (style_of (graph_of process))
 
 -- how many components of the sort the network has
 abbrev pub number_of : Circuit → Sort → ℕ

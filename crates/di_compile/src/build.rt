@@ -1,18 +1,21 @@
 //! The network of a command.
-ghost use Rattle.std.specs.Prelude.{◌≡◌, [], ◌∷◌, IfOk, IfErr};
+ghost use Rattle.std.specs.Prelude.{◌≡◌, ◌<◌, ◌^◌, [], ◌∷◌, IfOk, IfErr};
 ghost use Rattle.di_grammar.specs.Admitted.{Admitted};
 ghost use Rattle.place_graph.specs.Graph.{graph_of};
-ghost use Rattle.plain_split.specs.PlainNet.{HasPlain};
+ghost use Rattle.plain_split.specs.PlainNet.{HasCounted};
+ghost use Rattle.net_core.specs.declared.spec.NodeSpec.TheVariants.{Cmd};
 ghost use Rattle.net_core.specs.Wiring.{IsClosed};
+ghost use Rattle.net_laws.specs.Implementing.{Implements};
 ghost use Rattle.di_compile.specs.Compiling.{IsBuilt, IsInOrderOf, IsNetworkOf, IsRefused};
 
 use crate::refusal::CompileRefusal;
 use cmd_tree::{Command, Proc};
 use di_grammar::check;
 use net_core::{Net, order};
-use place_graph::{SplitStyle, graph, style};
+use place_graph::{SplitStyle, WaitGraph, graph, style};
 use plain_split::plain_net;
 use std::alloc::{AllocError, Global};
+use token_split::token_net;
 
 /// Of which components a network is made.
 #[derive(Debug, Clone, Copy, PartialEq, Eq)]
@@ -27,8 +30,8 @@ pub enum Basis {
 /// many components of each kind as the sums of the command say, and with symbol i on wire i.
 ///
 /// A command that breaks a rule is refused with the answer of `check`; an admitted one of which no network is
-/// built is `NotThisForm`: all but, in the basis wide, those of one process with one wait or in rounds. Time
-/// and memory grow with the places of the command and the wires of its network.
+/// built is `NotThisForm`: all but, in the basis wide, those of one process. Time and memory grow with the places
+/// of the command and the wires of its network.
 pub fn compile(alloc: Global, command: &Command, basis: Basis) -> Result<Net, CompileRefusal>
     ensures ok { IfOk result (λ net. IsBuilt basis command.now.procs × IsNetworkOf command.now net) }
     ensures refused { IfErr result (IsRefused basis command.now.procs) }
@@ -61,12 +64,27 @@ fn compile_process(alloc: Global, command: &Command, process: &Proc) -> Result<N
     ensures refused { IfErr result (IsRefused Basis.Wide command.now.procs) }
 {
     let graph = graph(alloc, process)?;
-    match style(&graph) {
-        SplitStyle::Token => Err(CompileRefusal::NotThisForm),
-        SplitStyle::OneWait | SplitStyle::Rounds(_) => {
-            let net = plain_net(alloc, command, &graph)?;
-            Ok(in_order(alloc, net)?)
-        }
+    let net = process_net(alloc, command, process, &graph)?;
+    Ok(in_order(alloc, net)?)
+}
+
+/// The network of the process, with a token where it needs one.
+fn process_net(
+    alloc: Global,
+    command: &Command,
+    process: &Proc,
+    graph: &WaitGraph,
+) -> Result<Net, AllocError>
+    requires admitted { Admitted command.now.procs }
+    requires alone { command.now.procs ≡ process.now ∷ [] }
+    requires graph { graph.now ≡ graph_of process.now }
+    ensures right { IfOk result (λ net. Implements net (Cmd command.now)) }
+    ensures few { IfOk result (λ net. net.wires < 2 ^ 20) }
+    ensures kinds { IfOk result (HasCounted command.now process.now) }
+{
+    match style(graph) {
+        SplitStyle::Token => token_net(alloc, command, graph),
+        SplitStyle::OneWait | SplitStyle::Rounds(_) => plain_net(alloc, command, graph),
     }
 }
 

@@ -1,7 +1,7 @@
 //! From a command to its network.
 //!
 //! `compile` checks the command, builds the network of its process, and puts it in walk order. Today it
-//! builds commands of one process with one wait or in rounds, in the basis wide.
+//! builds commands of one process, in the basis wide.
 #![tactic(auto)]
 
 mod build;
