@@ -71,7 +71,7 @@ pub fn numbers(alloc: Global, symbols: &[Sym]) -> Result<Vec<u32>, AllocError>
 }
 
 /// The symbols of each burst.
-fn all_symbols(alloc: Global, bursts: &[Items<Sym>]) -> Result<Vec<Vec<u32>>, AllocError>
+pub fn all_symbols(alloc: Global, bursts: &[Items<Sym>]) -> Result<Vec<Vec<u32>>, AllocError>
     ensures { IfOk result (λ it. map (λ xs. xs.items) it.items ≡ map numbers_of bursts.now) }
 {
     let mut all = Vec::new(alloc);
