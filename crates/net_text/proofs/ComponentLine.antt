@@ -1,6 +1,6 @@
 -- The line of a component tells its kind and its wires.
-use Rattle.std.proofs.Common.{◌≡◌, ◌≢◌, ◌⊎◌, inl, inr, ℕ, ◌+◌, ◌<◌, ◌≤◌, ◌^◌, Bool, true, false, List, [], ◌∷◌, ◌++◌, length, Option, Some, None, refl, sym, ap, ◌∙◌, subst, arith, append_assoc}
-use Rattle.std.specs.Prelude.{IsTrue, ◌&&◌, nat_lt, flat_map, codes, decimal, if◌then◌else◌}
+use Rattle.std.proofs.Common.{◌≡◌, ◌⊎◌, inl, inr, ℕ, ◌<◌, false, List, [], ◌∷◌, ◌++◌, length, Option, Some, None, refl, sym, ap, ◌∙◌, subst, arith, append_assoc}
+use Rattle.std.specs.Prelude.{IsTrue, nat_lt, flat_map, codes, decimal, if◌then◌else◌}
 use Rattle.std.specs.List.{AllByRecursion, list_all}
 use Rattle.std.specs.Str.{bytes_eq}
 use Rattle.std.specs.Char.{is_ascii_digit, is_ascii_uppercase}
@@ -12,12 +12,10 @@ use Rattle.basic_kinds.specs.Kinds.{inputs_of, outputs_of, IsWellFormed}
 use Rattle.basic_kinds.specs.Shapes.{IsShape, IsShape-prop, is_within}
 use Rattle.text_lines.specs.Lines.{worded}
 use Rattle.net_text.specs.NetText.{number_text, crossing_text, kind_text, component_line}
-use Rattle.net_text.proofs.Words.{Word, Gap, word_apart, word_begins, decimal_apart, decimal_begins, IsEnd, line, mark, IsItemText, led, items_gap, items_apart}
+use Rattle.net_text.specs.Told.{Small, AreWiresOf}
+use Rattle.net_text.proofs.Words.{Word, Gap, word_apart, word_begins, decimal_apart, decimal_begins, line, mark, IsItemText, led, items_gap, items_apart}
 
 -- ---- wires and crossings
-abbrev pub Small : ℕ → Type 0
-Small n = n < 2 ^ 64
-
 decimals : IsItemText Small decimal
 decimals = record {
   apart = λ m n a b h k g f e. decimal_apart m n a b h k g f e;
@@ -247,14 +245,6 @@ line_opened k ins outs t =
     ∙ append_assoc (kind_text k) i (32 ∷ (62 ∷ (o ++ (10 ∷ t))))
     ∙ kind_opened k (wires_then ins outs t)
 
--- the wires of a component: one at each port of its kind
-pub record AreWiresOf (k : Kind) (ins outs : List ℕ) : Type 0 where
-  pub formed : IsWellFormed k
-  pub inputs : length ins ≡ inputs_of k
-  pub outputs : length outs ≡ outputs_of k
-  pub small_ins : AllByRecursion Small ins
-  pub small_outs : AllByRecursion Small outs
-
 module _ (ins jns outs puts r s : List ℕ) where
   abbrev Told : Kind → Kind → Type 0
   Told k l = AreWiresOf k ins outs → AreWiresOf l jns puts → name_of k ≡ name_of l
@@ -264,15 +254,15 @@ module _ (ins jns outs puts r s : List ℕ) where
   both_shapes : (p q : Shape) → Told (Dw p) (Dw q)
   both_shapes p q f g n e =
       let same = shape_apart p q (wires_then ins outs r) (wires_then jns puts s) f.formed g.formed e in
-      let wires = wires_apart ins jns outs puts r s f.small_ins g.small_ins f.small_outs g.small_outs same.1 in
+      let wires = wires_apart ins jns outs puts r s f.small_inputs g.small_inputs f.small_outputs g.small_outputs same.1 in
       (ap Dw same.0, wires.0, wires.1, wires.2)
 
   both_named : (k l : Kind) → IsNamed k → IsNamed l → Told k l
   both_named k l a b f g n e =
       let same = sym (a.bare (wires_then ins outs r)) ∙ e ∙ b.bare (wires_then jns puts s) in
-      let wires = wires_apart ins jns outs puts r s f.small_ins g.small_ins f.small_outs g.small_outs same in
-      let many : inputs_of k ≡ inputs_of l = sym f.inputs ∙ ap length wires.0 ∙ g.inputs in
-      let few : outputs_of k ≡ outputs_of l = sym f.outputs ∙ ap length wires.1 ∙ g.outputs in
+      let wires = wires_apart ins jns outs puts r s f.small_inputs g.small_inputs f.small_outputs g.small_outputs same in
+      let many : inputs_of k ≡ inputs_of l = sym f.all_inputs ∙ ap length wires.0 ∙ g.all_inputs in
+      let few : outputs_of k ≡ outputs_of l = sym f.all_outputs ∙ ap length wires.1 ∙ g.all_outputs in
       let told : Some k ≡ Some l = sym a.named ∙ (λ i. kind_named (n i) (many i) (few i)) ∙ b.named in
       ((let kind : k ≡ l = cc in kind), wires.0, wires.1, wires.2)
 
@@ -285,13 +275,13 @@ module _ (ins jns outs puts r s : List ℕ) where
   told : (k l : Kind) → Told k l
   told k l = elim (shape_or_named k) [
     | inl (p, a) ↦ elim (shape_or_named l) [
-        | inl (q, b) ↦ subst (λ (x : Kind). Told x l) (sym a) (subst (λ (y : Kind). Told (Dw p) y) (sym b) (both_shapes p q))
-        | inr b ↦ subst (λ (x : Kind). Told x l) (sym a) (λ f g n e. absurd (no_shape l b n))
-      ]
+      | inl (q, b) ↦ subst (λ (x : Kind). Told x l) (sym a) (subst (λ (y : Kind). Told (Dw p) y) (sym b) (both_shapes p q))
+      | inr b ↦ subst (λ (x : Kind). Told x l) (sym a) (λ f g n e. absurd (no_shape l b n))
+    ]
     | inr a ↦ elim (shape_or_named l) [
-        | inl (q, b) ↦ subst (λ (y : Kind). Told k y) (sym b) (λ f g n e. absurd (no_shape k a (sym n)))
-        | inr b ↦ both_named k l a b
-      ]
+      | inl (q, b) ↦ subst (λ (y : Kind). Told k y) (sym b) (λ f g n e. absurd (no_shape k a (sym n)))
+      | inr b ↦ both_named k l a b
+    ]
   ]
 
   pub line_apart : (k l : Kind) → AreWiresOf k ins outs → AreWiresOf l jns puts
@@ -319,3 +309,9 @@ name_some (Seq k) = omega arith
 pub line_begins : (k : Kind) (ins outs t r : List ℕ) → component_line k ins outs ++ t ≡ 101 ∷ r → ⊥
 line_begins k ins outs t r e = word_begins is_ascii_uppercase (name_of k) (shape_of k (wires_then ins outs t)) 101 r
     (name_some k) (name_word k) refl (sym (line_opened k ins outs t) ∙ e)
+
+pub lines_told : (k l : Kind) (ins outs jns puts : List ℕ) → AreWiresOf k ins outs → AreWiresOf l jns puts
+    → component_line k ins outs ≡ component_line l jns puts → (k ≡ l) × (ins ≡ jns) × (outs ≡ puts)
+lines_told k l ins outs jns puts f g e =
+    let told = line_apart ins jns outs puts [] [] k l f g (ap (λ (t : List ℕ). t ++ []) e) in
+    (told.0, told.1, told.2)

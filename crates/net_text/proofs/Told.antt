@@ -1,24 +1,26 @@
 -- The text of a network tells the network.
-use Rattle.std.proofs.Common.{◌≡◌, ℕ, zero, suc, ◌+◌, ◌<◌, ◌≤◌, ◌^◌, Bool, true, false, List, [], ◌∷◌, ◌++◌, map, length, take, drop, get_or, Option, Some, None, refl, sym, ap, ◌∙◌, subst, arith, append_assoc, length-append}
+use Rattle.std.proofs.Common.{◌≡◌, ℕ, ◌+◌, ◌<◌, ◌≤◌, ◌^◌, true, false, List, [], ◌∷◌, ◌++◌, length, take, drop, refl, sym, ap, ◌∙◌, subst, arith, append_assoc, length-append}
 use Rattle.std.specs.Prelude.{IsTrue, flat_map, codes, slice_index_or, replicate}
-use Rattle.std.specs.List.{AllByRecursion, range_with_len, slice_get}
-use Rattle.std.proofs.lemmas.List.{append_cancel_left, take-append-drop, length-take-le, length-drop, length-replicate, length-map, ext_get_or}
-use Rattle.std.proofs.lemmas.List.FromFn.{length-range_with_len}
+use Rattle.std.specs.List.{AllByRecursion}
+use Rattle.std.proofs.lemmas.List.{append_cancel_left, take-append-drop, length-take-le, length-drop, length-replicate, ext_get_or}
+use Rattle.std.proofs.lemmas.List.FromFn.{length-map-range_with_len}
 use Rattle.cmd_tree.specs.declared.command.Command.{Command}
 use Rattle.cmd_tree.specs.Limits.{marks_of_all}
 use Rattle.cmd_text.specs.Canonical.{procs_text}
+use Rattle.cmd_text.proofs.FileTaken.{same_some}
 use Rattle.basic_kinds.specs.declared.kind.Kind.{Kind}
 use Rattle.basic_kinds.specs.Kinds.{inputs_of, outputs_of}
 use Rattle.net_core.specs.declared.spec.NodeSpec.{NodeSpec}
 use Rattle.net_core.specs.declared.spec.NodeSpec.TheVariants.{Kind as Basic, Cmd}
 use Rattle.net_core.specs.Specs.{gives_symbol, outs_of, IsFormed, is_kind}
-use Rattle.net_core.specs.Networks.{IsBasic, IsSpecified, end_at, spec_of}
-use Rattle.net_core.specs.Wiring.{Node, Circuit, IsWired, IsNetwork, IsClosed, wiring, driven}
+use Rattle.net_core.specs.Networks.{Correct, IsBasic, end_at}
+use Rattle.net_core.specs.Wiring.{Node, Circuit, IsWired, wiring}
+use Rattle.basic_kinds.proofs.Projections.{all_front}
 use Rattle.net_core.proofs.Sizes.{driven_many}
-use Rattle.net_text.specs.NetText.{component_line, spec_line, node_line, ports_text, command_net_text, environment_text, nodes_net_text, net_text}
-use Rattle.net_text.specs.Told.{HasText}
+use Rattle.net_text.specs.NetText.{spec_line, node_line, ports_text, command_net_text, nodes_net_text, net_text}
+use Rattle.net_text.specs.Told.{Small, AreWiresOf, HasText}
 use Rattle.net_text.proofs.Words.{word_apart}
-use Rattle.net_text.proofs.ComponentLine.{Small, AreWiresOf, line_apart, line_begins}
+use Rattle.net_text.proofs.ComponentLine.{line_apart, line_begins}
 use Rattle.net_text.proofs.CommandLine.{AreRead, is_in_line, command_in_line, same_text}
 
 -- ---- components
@@ -28,28 +30,20 @@ pub record IsPart (s : NodeSpec) (ends : List ℕ) : Type 0 where
   pub formed : IsFormed s
   pub small : AllByRecursion Small ends
 
-small_taken : (n : ℕ) (xs : List ℕ) → AllByRecursion Small xs → AllByRecursion Small (take n xs)
-small_taken zero xs h = tt
-small_taken (suc n) [] h = tt
-small_taken (suc n) (x ∷ xs) h = (h.0, small_taken n xs h.1)
-
-small_left : (n : ℕ) (xs : List ℕ) → AllByRecursion Small xs → AllByRecursion Small (drop n xs)
-small_left zero xs h = h
-small_left (suc n) [] h = tt
-small_left (suc n) (x ∷ xs) h = small_left n xs h.1
-
 wires_of : (k : Kind) (ends : List ℕ) → IsPart (Basic k) ends
     → AreWiresOf k (take (inputs_of k) ends) (drop (inputs_of k) ends)
 wires_of k ends p =
     let many : length ends ≡ inputs_of k + outputs_of k = p.sized
     ∙ length-append (replicate (inputs_of k) false) (replicate (outputs_of k) true)
     ∙ (λ i. length-replicate (inputs_of k) false i + length-replicate (outputs_of k) true i) in
+    let cut = all_front Small (take (inputs_of k) ends) (drop (inputs_of k) ends)
+    (subst (AllByRecursion Small) (sym (take-append-drop (inputs_of k) ends)) p.small) in
     record {
       formed = p.formed;
-      inputs = length-take-le (inputs_of k) ends (omega (arith, many));
-      outputs = omega (arith, length-drop (inputs_of k) ends, many);
-      small_ins = small_taken (inputs_of k) ends p.small;
-      small_outs = small_left (inputs_of k) ends p.small;
+      all_inputs = length-take-le (inputs_of k) ends (omega (arith, many));
+      all_outputs = omega (arith, length-drop (inputs_of k) ends, many);
+      small_inputs = cut.0;
+      small_outputs = cut.1;
     }
 
 no_command : {P : Type 0} (c : Command) (ends : List ℕ) → IsPart (Cmd c) ends → P
@@ -123,15 +117,10 @@ texts_told law k l ps qs f g e =
     (same, parts_told ps qs f g rest)
 
 -- ---- the environment's wires, and the number of wires
-index_get : (xs : List ℕ) (i : ℕ) → slice_index_or xs i 0 ≡ get_or xs i 0
-index_get [] i = refl
-index_get (x ∷ xs) zero = refl
-index_get (x ∷ xs) (suc i) = index_get xs i
-
 same_ends : (n : ℕ) (es fs : List ℕ) → length es ≡ n → length fs ≡ n → ((i : ℕ) → i < n → slice_index_or es i 0 ≡ i)
     → ((i : ℕ) → i < n → slice_index_or fs i 0 ≡ i) → es ≡ fs
 same_ends n es fs d e f g = ext_get_or 0 es fs (d ∙ sym e)
-    (λ i h. sym (index_get es i) ∙ f i (omega (arith, h, d)) ∙ sym (g i (omega (arith, h, d))) ∙ index_get fs i)
+    (λ i h. f i (omega (arith, h, d)) ∙ sym (g i (omega (arith, h, d))))
 
 small_ends : (n : ℕ) (xs : List ℕ) → n ≤ 2 ^ 64 → AllByRecursion (λ w. w < n) xs → AllByRecursion Small xs
 small_ends n [] h k = tt
@@ -154,16 +143,12 @@ pub record IsToldBy (command : Command) (nodes : List Node) : Type 0 where
   pub good : AllByRecursion ArePart parts
 
 symbols_sized : (k : Command) (ends : List ℕ) → length ends ≡ length (outs_of (Cmd k)) → length ends ≡ length k.names
-symbols_sized k ends e = e ∙ length-map (range_with_len 0 (length k.names)) (gives_symbol (marks_of_all k.procs))
-    ∙ length-range_with_len 0 (length k.names)
-
-same_some : (s t : NodeSpec) → Some s ≡ Some t → s ≡ t
-same_some s t e = cc
+symbols_sized k ends e = e ∙ length-map-range_with_len (gives_symbol (marks_of_all k.procs)) 0 (length k.names)
 
 told_by : (nodes : List Node) (n : ℕ) (c : HasText (record { nodes = nodes; wires = n })) → IsToldBy c.command nodes
 told_by [] n c = absurd (omega (arith, c.network.some))
 told_by (x ∷ xs) n c =
-    let is : x.spec ≡ Cmd c.command = same_some x.spec (Cmd c.command) c.specified in
+    let is : x.spec ≡ Cmd c.command = same_some c.specified in
     let fits : IsWired n x = c.network.wired.0 in
     record {
       ends = x.ends;
@@ -189,3 +174,15 @@ networks_told law c d f g e =
     let wires : c.wires ≡ d.wires = sym (driven_many c f.network.wired f.closed) ∙ ap (λ (xs : List Node). length (wiring true xs)) nodes
     ∙ driven_many d g.network.wired g.closed in
     λ i. record { nodes = nodes i; wires = wires i }
+
+pub correct_told : (k : Command) (c : Circuit) → Correct c (Cmd k) → IsBasic c
+    → ((i : ℕ) → i < length k.names → end_at c 0 i ≡ i) → c.wires ≤ 2 ^ 64 → HasText c
+correct_told k c correct basic ports few = record {
+  network = correct.network;
+  closed = correct.closed;
+  basic = basic;
+  command = k;
+  specified = correct.specified;
+  ports = ports;
+  few = few;
+}
