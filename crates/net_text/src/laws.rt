@@ -11,9 +11,9 @@ ghost use Rattle.net_text.specs.Told.{AreWiresOf, HasText};
 use cmd_text::canonical_texts_are_read;
 
 /// Different networks have different texts: the text of a closed network of basic components, on whose wire i the
-/// environment has its symbol i, tells its command, its components with their wires, and how many wires there are.
-/// Different components have different lines. A basic network that is correct for a command, symbol i on wire i, has
-/// such a text.
+/// environment has its symbol i, tells its command, its components with their wires, and how many wires there are,
+/// of which there are at most 2^64. Different components have different lines. A basic network that is correct for a
+/// command, symbol i on wire i, has such a text.
 pub fn texts_tell_networks()
     ensures networks { (c d : Circuit) → HasText c → HasText d → net_text c ≡ net_text d → c ≡ d }
     ensures components { (kind other : Kind) (inputs outputs ins outs : List ℕ) → AreWiresOf kind inputs outputs
