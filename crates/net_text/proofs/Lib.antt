@@ -1,1 +1,5 @@
 pub mod Walks
+pub mod Words
+pub mod CommandLine
+pub mod ComponentLine
+pub mod Told

@@ -1,2 +1,3 @@
 pub mod NetText
+pub mod Told
 pub mod Mirror

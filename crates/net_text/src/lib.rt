@@ -15,7 +15,9 @@
 #![tactic(auto)]
 
 mod component;
+mod laws;
 mod net;
 mod ports;
 
+pub use laws::texts_tell_networks;
 pub use net::write_net;
