@@ -187,7 +187,7 @@ total_none : (u : ℕ → ℕ) → 0 ≡ total 0 u
 unfolding total
 total_none u = refl
 
-pub range_each : (f : ℕ → List ℕ) (a k : ℕ) → long_each f (range_with_len a k) ≡ total k (λ i. length (f (a + i)))
+pub range_each : {A : Type 0} (f : ℕ → List A) (a k : ℕ) → long_each f (range_with_len a k) ≡ total k (λ i. length (f (a + i)))
 range_each f a zero = total_none (λ i. length (f (a + i)))
 range_each f a (suc k) = omega (
   arith,

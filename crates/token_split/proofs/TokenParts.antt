@@ -103,7 +103,7 @@ single rows columns k h = (
 abbrev pub kind_of : List ℕ → List ℕ → List Crossing → Kind
 kind_of rows columns cs = part_kind (length rows) (length columns) (local_of cs)
 
-no_crossing : (rows columns : List ℕ) → IsPart rows columns [] → ⊥
+pub no_crossing : (rows columns : List ℕ) → IsPart rows columns [] → ⊥
 no_crossing rows columns h = true≢false (sym (h.shape.each_row 0 h.shape.some_row))
 
 pub part_may : (rows columns : List ℕ) (cs : List Crossing) (z : Wire) → IsPart rows columns cs → Distinct (meet_ports rows columns cs) → (Among z (meet_ports rows columns cs) → ⊥) → (t : List ℕ)
