@@ -12,6 +12,6 @@ pub mod TokenLists
 pub mod TokenStart
 pub mod TokenDrawn
 pub mod TokenWires
-pub mod TokenLaw
 pub mod TokenKinds
+pub mod TokenLaw
 pub mod TokenExamples

@@ -1,6 +1,6 @@
 -- A fair process is implemented by its chart by a token.
-use Rattle.std.proofs.Common.{◌≡◌, ◌↔◌, inl, inr, ℕ, ◌+◌, ◌<◌, ◌≤◌, ◌^◌, Bool, nat_eq, IsTrue, List, [], ◌∷◌, ◌++◌, length, map, refl, sym, ap, ◌∙◌, subst, arith, is_some, append-nil, length-append, Option, Some, None}
-use Rattle.std.specs.Prelude.{get_or, not}
+use Rattle.std.proofs.Common.{◌≡◌, ◌↔◌, inl, inr, ℕ, ◌+◌, ◌<◌, ◌≤◌, ◌^◌, Bool, true, nat_eq, eq-eqb, IsTrue, List, [], ◌∷◌, ◌++◌, length, map, refl, sym, ap, ◌∙◌, subst, arith, is_some, append-nil, length-append, Option, Some, None}
+use Rattle.std.specs.Prelude.{get_or, not, drop}
 use Rattle.std.specs.List.{AllByRecursion, range_with_len}
 use Rattle.cmd_tree.specs.declared.tree.Proc.{Proc}
 use Rattle.cmd_tree.specs.Limits.{IsProc, IsNumbered, places_of_proc, places_of_all, marks_of_proc, marks_of_all}
@@ -11,7 +11,10 @@ use Rattle.cmd_tree.specs.Meaning.{has_symbol, Trace, TraceOf}
 use Rattle.process_laws.specs.Shape.{IsFair}
 use Rattle.basic_kinds.specs.Totals.{total}
 use Rattle.basic_kinds.specs.ShapeParts.{has_row, has_column}
+use Rattle.basic_kinds.specs.Sorts.{Sort, how_many}
+use Rattle.basic_kinds.specs.Sums.{wide_sum, total_of}
 use Rattle.net_core.specs.declared.spec.NodeSpec.{NodeSpec}
+use Rattle.net_core.specs.Wiring.{Node, Circuit}
 use Rattle.net_core.specs.Specs.{outs_of, May, IsFormed, gives_symbol}
 use Rattle.net_core.specs.declared.spec.NodeSpec.TheVariants.{Cmd}
 use Rattle.net_laws.specs.Charts.{charted}
@@ -20,6 +23,8 @@ use Rattle.net_laws.proofs.Among.{Among}
 use Rattle.place_graph.specs.declared.leg.Leg.{Leg}
 use Rattle.place_graph.specs.declared.wait_graph.Act.{Act}
 use Rattle.place_graph.specs.declared.wait_graph.Cross.{Cross as Crossing}
+use Rattle.place_graph.specs.declared.wait_graph.Start.TheVariants as start
+use Rattle.place_graph.specs.Sums.{counted}
 use Rattle.place_graph.specs.Points.{legs}
 use Rattle.place_graph.specs.Graph.{is_act, acts_of, inputs_of, act, cross, act_points, wait_points, points_of, index_of, burst_number, home_number, graph_of, in_order}
 use Rattle.place_graph.specs.Drawable.{AreDirections, AreSets}
@@ -27,14 +32,16 @@ use Rattle.place_graph.proofs.BurstSets.{few_filter, few_with_new, bursts_few}
 use Rattle.place_graph.proofs.Charted.{charted as leg_chart, leg_leads_on}
 use Rattle.place_graph.proofs.Played.{played}
 use Rattle.place_graph.proofs.LegBounds.{legs_few}
+use Rattle.plain_split.specs.OneWaitSums.{is_component}
+use Rattle.plain_split.specs.PlainNet.{HasCounted}
 use Rattle.plain_split.proofs.SharedAdmitted.{alone_fair, alone_directions, alone_sets}
 use Rattle.plain_split.proofs.SharedEntries.{leg_comes}
 use Rattle.plain_split.proofs.SharedCommands.{numbered_known, comes_of_leg, one_traces}
 use Rattle.plain_split.proofs.OneWaitLong.{few_long, once_times}
 use Rattle.plain_split.proofs.OneWaitWires.{marks_places, map_long, filter_long, range_long, range_each, long_each, total_le}
 use Rattle.plain_split.proofs.OneWaitLaw.{known_of, trace_empty, trace_front}
-use Rattle.token_split.specs.TokenChart.{Links, links, lines, token_chart, pair, listed as exit_list}
-use Rattle.token_split.specs.TokenNet.{HasToken, NeedsToken, links_of, token_circuit}
+use Rattle.token_split.specs.TokenChart.{Links, links, lines, token_chart, pair, is_open, listed as exit_list}
+use Rattle.token_split.specs.TokenNet.{HasToken, NeedsToken, IsTokenNet, links_of, token_circuit}
 use Rattle.token_split.proofs.TokenCounts.{Numbered}
 use Rattle.token_split.proofs.TokenTraces.{Drawn}
 use Rattle.token_split.proofs.TokenRoutes.{Listed}
@@ -42,6 +49,7 @@ use Rattle.token_split.proofs.TokenParts.{IsPart}
 use Rattle.token_split.proofs.TokenCharted.{IsNarrow, token_right}
 use Rattle.token_split.proofs.TokenStart.{first_leg}
 use Rattle.token_split.proofs.TokenDrawn.{numbers, drawn, listed, parted}
+use Rattle.token_split.proofs.TokenKinds.{token_kinds}
 use Rattle.token_split.proofs.TokenWires.{long_in_order, acts_few, lines_few}
 
 exit_few : (o : Option ℕ) → length (exit_list o) ≤ 1
@@ -179,6 +187,26 @@ module _ (c : Command) (p : Proc) (h : HasToken c p) where
 
   pub command_narrow : IsNarrow (links_of c p)
   command_narrow = narrow directions p proc body h.fair h.directions h.sets (length c.names) symbols_known (omega (arith, places)) (omega (arith, c.valid.few_symbols))
+
+  -- where the process begins at a wait, there is one
+  wait_begun : (v : ℕ) → (graph_of p).start ≡ start.Wait v → v < (graph_of p).waits
+  wait_begun v e =
+      let opens : (links_of c p).opens v ≡ true = ap (is_open v) e ∙ eq-eqb v v refl in
+      let (l, i, z) = (are_drawn directions p proc body h.fair h.directions h.sets (length c.names) symbols_known).start_wait v opens in
+      omega (arith, (are_listed directions p proc body h.fair h.directions h.sets (length c.names) symbols_known).wait_low l i, z)
+
+  pub command_kinds : (k : Sort) → how_many (λ (x : Node). is_component k x.spec) (drop 1 (token_circuit c p).nodes) ≡ total_of wide_sum (counted (graph_of p) (length c.names)) k
+  command_kinds k = token_kinds (Cmd c) (graph_of p) (length c.names) h.style k command_parted wait_begun
+
+module _ (c : Command) (p : Proc) (net : Circuit) (h : HasToken c p) (is : IsTokenNet c p net) where
+  pub net_right : Implements net (Cmd c)
+  net_right = subst (λ n. Implements n (Cmd c)) (sym is) (command_right c p h)
+
+  pub net_wires : net.wires < 2 ^ 20
+  net_wires = subst (λ (n : Circuit). n.wires < 2 ^ 20) (sym is) (command_wires c p h)
+
+  pub net_kinds : HasCounted c p net
+  net_kinds k = subst (λ (n : Circuit). how_many (λ (x : Node). is_component k x.spec) (drop 1 n.nodes) ≡ total_of wide_sum (counted (graph_of p) (length c.names)) k) (sym is) (command_kinds c p h k)
 
 pub token_admitted : (c : Command) (p : Proc) → NeedsToken c p → HasToken c p
 token_admitted c p n = record {
