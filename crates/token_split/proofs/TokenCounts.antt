@@ -134,19 +134,21 @@ module _ (L : List Leg) (out : ℕ → Bool) (key : Leg → ℕ) (home no wait :
     behind = v.behind;
   }
 
-  -- the wire may be fired
-  pub record Guard (D : Leg → ℕ) (F P : Wire → ℕ) (w : Wire) : Type 0 where
-    pub bursts : (l : Leg) (a : ℕ) → Inputs l → Has l a → bur l ≡ w → F (bur l) < P (Take a)
-    pub columns : (l k : Leg) (a : ℕ) → Inputs l → Inputs k → Has l a → Has k a → cross k ≡ w → met F a < P (bur l)
-    pub rows : (l k : Leg) → Inputs l → Inputs k → k.from ≡ l.from → cross k ≡ w → crossed F l.from < P (row l.from)
-    pub calls : (m : Leg) → Acts m → call m ≡ w → F (call m) < entered P m.from
-    pub begins : (m : Leg) → Acts m → begin m ≡ w → F (begin m) < one_if m.from 1 + P (call m)
-    pub puts : (m : Leg) (a : ℕ) → Acts m → Has m a → Put (no m.from) a ≡ w → F (Put (no m.from) a) < P (begin m)
-    pub exits : (m : Leg) → Acts m → exit m ≡ w → F (exit m) < P (begin m)
-    pub backs : (l : Leg) → Inputs l → back l.from ≡ w → F (back l.from) < left P l.from
-    pub gates : (l : Leg) → Inputs l → row l.from ≡ w → F (row l.from) < one_if l.from 1 + P (back l.from)
-    pub gives : (a : ℕ) → out a ≡ true → Give a ≡ w → F (Give a) < given_by P a
-    pub behind : (l : Leg) → Inputs l → cross l ≡ w → F (cross l) < D l
+  -- the wire may be fired: of a crossing the row and the column are pending, and it lags
+  abbrev pub Pends : (D : Leg → ℕ) (F P : Wire → ℕ) → Leg → Type 0
+  Pends D F P k = (crossed F k.from < P (row k.from)) × ((a : ℕ) → Has k a → met F a < P (bur k)) × (F (cross k) < D k)
+
+  abbrev pub Fires : (D : Leg → ℕ) (F P : Wire → ℕ) → Wire → Type 0
+  Fires D F P (Take a) = Unit {0}
+  Fires D F P (Burst b) = (l : Leg) (a : ℕ) → Inputs l → Has l a → key l ≡ b → F (Burst b) < P (Take a)
+  Fires D F P (Return x) = (l : Leg) → Inputs l → wait l.from ≡ x → F (Return x) < left P l.from
+  Fires D F P (Row x) = (l : Leg) → Inputs l → wait l.from ≡ x → F (Row x) < one_if l.from 1 + P (Return x)
+  Fires D F P (Cross x b n) = (k : Leg) → Inputs k → cross k ≡ Cross x b n → Pends D F P k
+  Fires D F P (Call n) = (m : Leg) → Acts m → no m.from ≡ n → F (Call n) < entered P m.from
+  Fires D F P (Begin n) = (m : Leg) → Acts m → no m.from ≡ n → F (Begin n) < one_if m.from 1 + P (Call n)
+  Fires D F P (Put n a) = (m : Leg) → Acts m → Has m a → no m.from ≡ n → F (Put n a) < P (Begin n)
+  Fires D F P (Exit n x) = (m : Leg) → Acts m → no m.from ≡ n → wait m.to ≡ x → F (Exit n x) < P (Begin n)
+  Fires D F P (Give a) = out a ≡ true → F (Give a) < given_by P a
 
   module _ (one : Numbered L out key home no wait) where
     -- a leg to an act is an input
@@ -231,32 +233,40 @@ module _ (L : List Leg) (out : ℕ → Bool) (key : Leg → ℕ) (home no wait :
         either false true f g = g refl
         either false false f g = refl
 
-    pub lines_fired : (D : Leg → ℕ) (F P : Wire → ℕ) (w : Wire) (G : Wire → ℕ) → Lines F P → Guard D F P w → Grew F w G → Lines G P
-    lines_fired D F P w G v k g = record {
-      bursts = λ l a i x. grew_bound F w G g (bur l) (P (Take a)) (v.bursts l a i x) (k.bursts l a i x);
-      columns = λ l a i x.
-          let inner : (m : Leg) → Among L m → in_leg a m ≡ true → Inputs m = λ m b y. inputs_with m a b (input_has l a i x) y in
-          sum_grew L one.chart.increase (in_leg a) cross (λ m n b c p q e. one_cross m n (inner m b p) (inner n c q) e) F w G g (P (bur l)) (v.columns l a i x)
-          (λ m b y e. k.columns l m a i (inner m b y) x y e);
-      rows = λ l i.
-          let inner : (m : Leg) → Among L m → from_at l.from m ≡ true → Inputs m = λ m b y. from_wait l m i b (sym (eqb-true l.from m.from y)) in
-          sum_grew L one.chart.increase (from_at l.from) cross (λ m n b c p q e. one_cross m n (inner m b p) (inner n c q) e) F w G g (P (row l.from)) (v.rows l i)
-          (λ m b y e. k.rows l m i (inner m b y) (sym (eqb-true l.from m.from y)) e);
-      calls = λ m i. grew_bound F w G g (call m) (entered P m.from) (v.calls m i) (k.calls m i);
-      begins = λ m i. grew_bound F w G g (begin m) (one_if m.from 1 + P (call m)) (v.begins m i) (k.begins m i);
-      puts = λ m a i x. grew_bound F w G g (Put (no m.from) a) (P (begin m)) (v.puts m a i x) (k.puts m a i x);
-      exits = λ m i. grew_bound F w G g (exit m) (P (begin m)) (v.exits m i) (k.exits m i);
-      backs = λ l i. grew_bound F w G g (back l.from) (left P l.from) (v.backs l i) (k.backs l i);
-      gates = λ l i. grew_bound F w G g (row l.from) (one_if l.from 1 + P (back l.from)) (v.gates l i) (k.gates l i);
-      gives = λ a o. grew_bound F w G g (Give a) (given_by P a) (v.gives a o) (k.gives a o);
-    }
+    module _ (D : Leg → ℕ) (F P : Wire → ℕ) (w : Wire) (k : Fires D F P w) where
+      -- what the wire is says what it may be fired by
+      fires : (v : Wire) → v ≡ w → Fires D F P v
+      fires v e = subst (Fires D F P) (sym e) k
 
-    pub front_fired : (D : Leg → ℕ) (here : ℕ) (came : ℕ → ℕ) (F P : Wire → ℕ) (w : Wire) (G : Wire → ℕ) → Front D here came F P → Guard D F P w → Grew F w G → Front D here came G P
-    front_fired D here came F P w G v k g = record {
-      told = v.told;
-      ahead = v.ahead;
-      behind = λ l i. grew_bound F w G g (cross l) (D l) (v.behind l i) (k.behind l i);
-    }
+      pends : (m : Leg) → Inputs m → cross m ≡ w → Pends D F P m
+      pends m i e = fires (cross m) e m i refl
+
+      pub lines_fired : (G : Wire → ℕ) → Lines F P → Grew F w G → Lines G P
+      lines_fired G v g = record {
+        bursts = λ l a i x. grew_bound F w G g (bur l) (P (Take a)) (v.bursts l a i x) (λ e. fires (bur l) e l a i x refl);
+        columns = λ l a i x.
+            let inner : (m : Leg) → Among L m → in_leg a m ≡ true → Inputs m = λ m b y. inputs_with m a b (input_has l a i x) y in
+            sum_grew L one.chart.increase (in_leg a) cross (λ m n b c p q e. one_cross m n (inner m b p) (inner n c q) e) F w G g (P (bur l)) (v.columns l a i x)
+            (λ m b y e. omega (arith, (pends m (inner m b y) e).1 a y, ap (λ n. P (Burst n)) (one_burst l m a i (inner m b y) x y)));
+        rows = λ l i.
+            let inner : (m : Leg) → Among L m → from_at l.from m ≡ true → Inputs m = λ m b y. from_wait l m i b (sym (eqb-true l.from m.from y)) in
+            sum_grew L one.chart.increase (from_at l.from) cross (λ m n b c p q e. one_cross m n (inner m b p) (inner n c q) e) F w G g (P (row l.from)) (v.rows l i)
+            (λ m b y e. subst (λ x. crossed F x < P (row x)) (sym (eqb-true l.from m.from y)) (pends m (inner m b y) e).0);
+        calls = λ m i. grew_bound F w G g (call m) (entered P m.from) (v.calls m i) (λ e. fires (call m) e m i refl);
+        begins = λ m i. grew_bound F w G g (begin m) (one_if m.from 1 + P (call m)) (v.begins m i) (λ e. fires (begin m) e m i refl);
+        puts = λ m a i x. grew_bound F w G g (Put (no m.from) a) (P (begin m)) (v.puts m a i x) (λ e. fires (Put (no m.from) a) e m i x refl);
+        exits = λ m i. grew_bound F w G g (exit m) (P (begin m)) (v.exits m i) (λ e. fires (exit m) e m i refl refl);
+        backs = λ l i. grew_bound F w G g (back l.from) (left P l.from) (v.backs l i) (λ e. fires (back l.from) e l i refl);
+        gates = λ l i. grew_bound F w G g (row l.from) (one_if l.from 1 + P (back l.from)) (v.gates l i) (λ e. fires (row l.from) e l i refl);
+        gives = λ a o. grew_bound F w G g (Give a) (given_by P a) (v.gives a o) (λ e. fires (Give a) e o);
+      }
+
+      pub front_fired : (here : ℕ) (came : ℕ → ℕ) (G : Wire → ℕ) → Front D here came F P → Grew F w G → Front D here came G P
+      front_fired here came G v g = record {
+        told = v.told;
+        ahead = v.ahead;
+        behind = λ l i. grew_bound F w G g (cross l) (D l) (v.behind l i) (λ e. (pends l i e).2);
+      }
 
     module _ (D : Leg → ℕ) (here : ℕ) (came : ℕ → ℕ) (F P : Wire → ℕ) (s : Stands L D here came) (t : Ties D came F P) (f : Flows F P) (v : Lines F P) (k : Front D here came F P) where
       pub given : (w : Wire) → P w ≤ F w
