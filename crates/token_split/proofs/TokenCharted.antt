@@ -780,19 +780,19 @@ module _ (L : List Leg) (out : ℕ → Bool) (T : List ℕ → Type 0) (g : Link
   givens = map Give (filter (is_given g) (range_with_len 0 g.names))
 
   -- a wire stands among the inputs of its receiver, where that is a component
-  comes_named : (w : Wire) → There w → (receiver g w ≡ Env) ⊎ (Named (receiver g w) × Among w (inputs g (receiver g w)))
+  comes_named : (w : Wire) → There w → ((a : ℕ) × (w ≡ Give a)) ⊎ (Named (receiver g w) × Among w (inputs g (receiver g w)))
   comes_named (Take a) (l, j, h) =
       let home_is : key l ≡ g.home a = sym (drawn.home_is l a j h) in
       inr (omega (arith, listed.key_low l j, home_is), map_among Take (g.symbols (g.home a)) a (subst (λ b. Among a (g.symbols b)) home_is (drawn.in_burst l a j h)))
   comes_named (Burst b) (l, j, e) =
       let p : Among (g.column_part (key l)) g.parts = subst (λ i. Among i g.parts) (drawn.same_part l j) (listed.in_parts l j) in
-      subst (λ b. (Meet (g.column_part b) ≡ Env) ⊎ (Among (g.column_part b) g.parts × Among (Burst b) (map Row (g.rows (g.column_part b)) ++ map Burst (g.columns (g.column_part b))))) e
+      subst (λ b. ((a : ℕ) × (Burst b ≡ Give a)) ⊎ (Among (g.column_part b) g.parts × Among (Burst b) (map Row (g.rows (g.column_part b)) ++ map Burst (g.columns (g.column_part b))))) e
       (inr (p, among_right (Burst (key l)) (map Row (g.rows (g.column_part (key l)))) (map Burst (g.columns (g.column_part (key l)))) (map_among Burst (g.columns (g.column_part (key l))) (key l) (drawn.in_columns l j))))
   comes_named (Return x) (l, m, j, k, to, e) =
       let low : x < g.waits = omega (arith, listed.wait_low l j, e) in
       inr (low, is_one_wire (g.returns x) (Return x) (no m.from) (subst (λ y. Among (no m.from) (g.returns y)) (ap wait to ∙ e) (drawn.back_in m k)))
   comes_named (Row x) (l, j, e) =
-      subst (λ x. (Meet (g.row_part x) ≡ Env) ⊎ (Among (g.row_part x) g.parts × Among (Row x) (map Row (g.rows (g.row_part x)) ++ map Burst (g.columns (g.row_part x))))) e
+      subst (λ x. ((a : ℕ) × (Row x ≡ Give a)) ⊎ (Among (g.row_part x) g.parts × Among (Row x) (map Row (g.rows (g.row_part x)) ++ map Burst (g.columns (g.row_part x))))) e
       (inr (listed.in_parts l j, among_left (Row (wait l.from)) (map Row (g.rows (g.row_part (wait l.from)))) (map Burst (g.columns (g.row_part (wait l.from)))) (map_among Row (g.rows (g.row_part (wait l.from))) (wait l.from) (drawn.in_rows l j))))
   comes_named (Cross x b n) (l, j, e) =
       let (m, k, to) = next_act L out key home no wait one l j in
@@ -812,11 +812,11 @@ module _ (L : List Leg) (out : ℕ → Bool) (T : List ℕ → Type 0) (g : Link
       let z : wait m.to ≡ x = cc in
       let low : x < g.waits = omega (arith, listed.wait_low l k, ap wait from, z) in
       inr (low, map_among (λ n. Exit n x) (g.returns x) n (subst (λ n. Among n (g.returns x)) y (subst (λ x. Among (no m.from) (g.returns x)) z (drawn.back_in m j))))
-  comes_named (Give a) t = inl refl
+  comes_named (Give a) t = inl (a, refl)
 
   -- a wire stands among the outputs of its driver, where that is a component
-  goes_named : (w : Wire) → There w → (driver g w ≡ Env) ⊎ (Named (driver g w) × Among w (outputs g (driver g w)))
-  goes_named (Take a) t = inl refl
+  goes_named : (w : Wire) → There w → ((a : ℕ) × (w ≡ Take a)) ⊎ (Named (driver g w) × Among w (outputs g (driver g w)))
+  goes_named (Take a) t = inl (a, refl)
   goes_named (Burst b) (l, j, e) = inr ((let low : b < g.bursts = omega (arith, listed.key_low l j, e) in low), inl refl)
   goes_named (Return x) (l, m, j, k, to, e) = inr ((let low : x < g.waits = omega (arith, listed.wait_low l j, e) in low), inl refl)
   goes_named (Row x) (l, j, e) = inr ((let low : x < g.waits = omega (arith, listed.wait_low l j, e) in low), inl refl)
@@ -843,23 +843,13 @@ module _ (L : List Leg) (out : ℕ → Bool) (T : List ℕ → Type 0) (g : Link
 
   lines_among : (w : Wire) → There w → Kept (receiver g w) → Among w (lines g)
   lines_among w t k = elim (comes_named w t) [
-    | inl e ↦ given_in w t e
+    | inl (a, e) ↦
+        let (m, j, h) = subst There e t in
+        subst (λ w. Among w (lines g)) (sym e) (among_left (Give a) givens (joined (inputs g) (components g))
+        (map_among Give (filter (is_given g) (range_with_len 0 g.names)) a (among_filter (is_given g) (range_with_len 0 g.names) a (low_among g.names a (listed.has_low m a j.0 h))
+        (some_given (g.givers a) (no m.from) (drawn.giver m a j h)))))
     | inr (h, a) ↦ among_right w givens (joined (inputs g) (components g)) (among_joined (inputs g) (components g) (receiver g w) w (component_among (receiver g w) h k) a)
   ]
-    where
-      given_in : (w : Wire) → There w → receiver g w ≡ Env → Among w (lines g)
-      given_in (Take a) t e = absurd (cc)
-      given_in (Burst b) t e = absurd (cc)
-      given_in (Return x) t e = absurd (cc)
-      given_in (Row x) t e = absurd (cc)
-      given_in (Cross x b n) t e = absurd (cc)
-      given_in (Call n) t e = absurd (cc)
-      given_in (Begin n) t e = absurd (cc)
-      given_in (Put n a) t e = absurd (cc)
-      given_in (Exit n x) t e = absurd (cc)
-      given_in (Give a) (m, j, h) e = among_left (Give a) givens (joined (inputs g) (components g))
-          (map_among Give (filter (is_given g) (range_with_len 0 g.names)) a (among_filter (is_given g) (range_with_len 0 g.names) a (low_among g.names a (listed.has_low m a j.0 h))
-          (some_given (g.givers a) (no m.from) (drawn.giver m a j h))))
 
   given_line : (w : Wire) → Among w givens → There w × (receiver g w ≡ Env)
   given_line w a =
@@ -918,39 +908,19 @@ module _ (L : List Leg) (out : ℕ → Bool) (T : List ℕ → Type 0) (g : Link
 
   driven_at : (w : Wire) → There w → Kept (driver g w) → AtNode (driver g w) w
   driven_at w t k = elim (goes_named w t) [
-    | inl e ↦ taken w t e
+    | inl (a, e) ↦
+        let (l, j, h) = subst There e t in
+        subst (λ w. AtNode (driver g w) w) (sym e) (env_port (Take a) a (listed.has_low l a j.0 h) (port_taken a (listed.has_low l a j.0 h) (input_has L out key home no wait one l a j h)))
     | inr (h, a) ↦ (inr (component_among (driver g w) h k), subst (Among w) (sym (ports_are (driver g w) h)) (among_right w (inputs g (driver g w)) (outputs g (driver g w)) a))
   ]
-    where
-      taken : (w : Wire) → There w → driver g w ≡ Env → AtNode (driver g w) w
-      taken (Take a) (l, j, h) e = env_port (Take a) a (listed.has_low l a j.0 h) (port_taken a (listed.has_low l a j.0 h) (input_has L out key home no wait one l a j h))
-      taken (Burst b) t e = absurd (cc)
-      taken (Return x) t e = absurd (cc)
-      taken (Row x) t e = absurd (cc)
-      taken (Cross x b n) t e = absurd (cc)
-      taken (Call n) t e = absurd (cc)
-      taken (Begin n) t e = absurd (cc)
-      taken (Put n a) t e = absurd (cc)
-      taken (Exit n x) t e = absurd (cc)
-      taken (Give a) t e = absurd (cc)
 
   received_at : (w : Wire) → There w → Kept (receiver g w) → AtNode (receiver g w) w
   received_at w t k = elim (comes_named w t) [
-    | inl e ↦ given w t e
+    | inl (a, e) ↦
+        let (m, j, h) = subst There e t in
+        subst (λ w. AtNode (receiver g w) w) (sym e) (env_port (Give a) a (listed.has_low m a j.0 h) (port_given a (listed.has_low m a j.0 h) (act_has L out key home no wait one m a j h)))
     | inr (h, a) ↦ (inr (component_among (receiver g w) h k), subst (Among w) (sym (ports_are (receiver g w) h)) (among_left w (inputs g (receiver g w)) (outputs g (receiver g w)) a))
   ]
-    where
-      given : (w : Wire) → There w → receiver g w ≡ Env → AtNode (receiver g w) w
-      given (Take a) t e = absurd (cc)
-      given (Burst b) t e = absurd (cc)
-      given (Return x) t e = absurd (cc)
-      given (Row x) t e = absurd (cc)
-      given (Cross x b n) t e = absurd (cc)
-      given (Call n) t e = absurd (cc)
-      given (Begin n) t e = absurd (cc)
-      given (Put n a) t e = absurd (cc)
-      given (Exit n x) t e = absurd (cc)
-      given (Give a) (m, j, h) e = env_port (Give a) a (listed.has_low m a j.0 h) (port_given a (listed.has_low m a j.0 h) (act_has L out key home no wait one m a j h))
 
   kept_or : (x : Name) → Kept x ⊎ (Kept x → ⊥)
   kept_or x = elim (cases_Bool (is_kept g x)) [ inl e ↦ inl e | inr e ↦ inr (λ k. true≢false (sym k ∙ e)) ]
