@@ -1,5 +1,5 @@
 -- The chart of a process by a token is a chart of its web.
-use Rattle.std.proofs.Common.{◌≡◌, ◌↔◌, ◌⊎◌, inl, inr, ⊎_elim, ℕ, zero, suc, ◌+◌, ◌<◌, ◌≤◌, ◌^◌, Bool, true, false, true≢false, filter, List, [], ◌∷◌, ◌++◌, length, map, replicate, get_or, refl, sym, ap, ◌∙◌, subst, arith, if◌then◌else◌, append_assoc, append-nil, length-append}
+use Rattle.std.proofs.Common.{◌≡◌, ◌↔◌, ◌⊎◌, inl, inr, ⊎_elim, ℕ, ◌+◌, ◌<◌, ◌≤◌, ◌^◌, Bool, true, false, true≢false, filter, List, [], ◌∷◌, ◌++◌, length, map, replicate, get_or, refl, sym, ap, ◌∙◌, subst, arith, if◌then◌else◌, append_assoc, append-nil, length-append}
 use Rattle.std.specs.Prelude.{IsTrue}
 use Rattle.std.specs.List.{AllByRecursion, range_with_len}
 use Rattle.std.proofs.lemmas.Bool.{cases_Bool, cases_lt}
@@ -31,17 +31,16 @@ use Rattle.plain_split.specs.OneWait.{many}
 use Rattle.plain_split.proofs.SharedLists.{all_by_among, among_filter, filter_among, distinct_filter, distinct_map, among_joined, joined_among, distinct_joined}
 use Rattle.plain_split.proofs.SharedPaths.{Onward, Backward, near, near_kept, far_kept, far_here, near_far, far_near, path_to, map_places, place_at}
 use Rattle.plain_split.proofs.SharedCommands.{comes_of_leg}
-use Rattle.plain_split.proofs.OneWaitWeb.{sum_of, MergeOn}
+use Rattle.plain_split.proofs.OneWaitWeb.{MergeOn}
 use Rattle.plain_split.proofs.OneWaitTraces.{among_map, map_among}
 use Rattle.plain_split.proofs.OneWaitChart.{many_some, many_two, some_given, given_some, as_long, map_id, merge_may, join_traces, fork_traces, joined_row}
 use Rattle.token_split.specs.TokenChart.{Wire, Take, Burst, Return, Row, Cross, Call, Begin, Put, Exit, Give, Name, Env, Join, Meet, Calls, Gate, Spread, Returns, Entry, Shows, Links, same_wire, driver, receiver, is_kept, next, rest, last, cross_wire, one_wire, inputs, outputs, is_given, port, ports, gate_kind, spec_at, all_names, components, lines, token_chart}
-use Rattle.token_split.proofs.TokenWeb.{wires_decide, GateOn, JoinOn, ForkOn, RowOn, ColumnOn, CrossOn, MeetOn, EnvOn, word, web, lawful}
+use Rattle.token_split.proofs.TokenWeb.{wires_decide, GateOn, JoinOn, ForkOn, EnvOn, word, web, lawful}
 use Rattle.token_split.proofs.TokenRules.{gate_some, join_some, join_taken, fork_out, fork_some, take_end, give_end}
 use Rattle.token_split.proofs.TokenCounts.{Numbered, acts_with, inputs_with, act_has, input_has, next_act, next_wait}
-use Rattle.token_split.proofs.TokenTraces.{Drawn, Real, Act, Input, crossing, cross_of, exit_of, burst_there, real_return, returned_by, row_there, real_call, begin_there, real_put, real_exit, real_give, real_cross, sound}
+use Rattle.token_split.proofs.TokenTraces.{Drawn, Real, crossing, burst_there, real_return, returned_by, row_there, real_call, begin_there, real_put, real_exit, real_give, real_cross, sound}
 use Rattle.token_split.proofs.TokenExact.{exact}
 use Rattle.token_split.proofs.TokenRoutes.{Listed, back, prev, onward, backward, apart_at}
-use Rattle.token_split.proofs.TokenMeet.{meet_ports}
 use Rattle.token_split.proofs.TokenParts.{IsPart, part_may, part_formed, part_sides}
 
 -- no group is too wide for a component
@@ -362,9 +361,9 @@ module _ (L : List Leg) (out : ℕ → Bool) (T : List ℕ → Type 0) (g : Link
       (distinct_both joins after_joins (distinct_row Join (λ i j e. cc) g.bursts)
       (distinct_both (map Meet g.parts) after_parts (distinct_map Meet (λ i j e. cc) g.parts listed.parts_once)
       (distinct_both acts after_acts (distinct_joined of_act (range_with_len 0 g.acts) (range_once g.acts) (λ n a. act_once n)
-          (λ n m x i j a b. sym (of_act_at n x a (among_low g.acts n i)).1 ∙ (of_act_at m x b (among_low g.acts m j)).1))
+      (λ n m x i j a b. sym (of_act_at n x a (among_low g.acts n i)).1 ∙ (of_act_at m x b (among_low g.acts m j)).1))
       (distinct_both waits shows (distinct_joined of_wait (range_with_len 0 g.waits) (range_once g.waits) (λ n a. wait_once n)
-          (λ n m x i j a b. sym (of_wait_at n x a (among_low g.waits n i)).1 ∙ (of_wait_at m x b (among_low g.waits m j)).1))
+      (λ n m x i j a b. sym (of_wait_at n x a (among_low g.waits n i)).1 ∙ (of_wait_at m x b (among_low g.waits m j)).1))
       (distinct_row Shows (λ i j e. cc) g.names)
       (λ x a b. omega (arith, (wait_stands x a).1, (show_stands x b).1)))
       (λ x a b. omega (arith, (act_stands x a).1, (after_acts_from x b).1)))
@@ -798,8 +797,11 @@ module _ (L : List Leg) (out : ℕ → Bool) (T : List ℕ → Type 0) (g : Link
       let (m, k, to) = next_act L out key home no wait one l j in
       let z : no l.to ≡ n = cc in
       let low : n < g.acts = omega (arith, listed.no_low m k, ap no to, z) in
-      inr (low, subst (λ w. Among w (map cross_wire (g.entries n))) e (map_among cross_wire (g.entries n) (crossing L out T g key home no wait one plays drawn l)
-          (subst (λ n. Among (crossing L out T g key home no wait one plays drawn l) (g.entries n)) z (drawn.entry l j))))
+      inr (
+        low,
+        subst (λ w. Among w (map cross_wire (g.entries n))) e (map_among cross_wire (g.entries n) (crossing L out T g key home no wait one plays drawn l)
+            (subst (λ n. Among (crossing L out T g key home no wait one plays drawn l) (g.entries n)) z (drawn.entry l j))),
+      )
   comes_named (Call n) (l, j, z) =
       let (m, k, to) = next_act L out key home no wait one l j in
       let low : n < g.acts = omega (arith, listed.no_low m k, ap no to, z) in
@@ -822,9 +824,11 @@ module _ (L : List Leg) (out : ℕ → Bool) (T : List ℕ → Type 0) (g : Link
   goes_named (Row x) (l, j, e) = inr ((let low : x < g.waits = omega (arith, listed.wait_low l j, e) in low), inl refl)
   goes_named (Cross x b n) (l, j, e) =
       let z : wait l.from ≡ x = cc in
-      inr (subst (λ x. Among (g.row_part x) g.parts) z (listed.in_parts l j),
-      subst (λ w. Among w (map cross_wire (g.meets (g.row_part x)))) e (map_among cross_wire (g.meets (g.row_part x)) (crossing L out T g key home no wait one plays drawn l)
-      (subst (λ x. Among (crossing L out T g key home no wait one plays drawn l) (g.meets (g.row_part x))) z (drawn.in_meets l j))))
+      inr (
+        subst (λ x. Among (g.row_part x) g.parts) z (listed.in_parts l j),
+        subst (λ w. Among w (map cross_wire (g.meets (g.row_part x)))) e (map_among cross_wire (g.meets (g.row_part x)) (crossing L out T g key home no wait one plays drawn l)
+            (subst (λ x. Among (crossing L out T g key home no wait one plays drawn l) (g.meets (g.row_part x))) z (drawn.in_meets l j))),
+      )
   goes_named (Call n) (l, j, z) =
       let (m, k, to) = next_act L out key home no wait one l j in
       inr ((let low : n < g.acts = omega (arith, listed.no_low m k, ap no to, z) in low), inl refl)

@@ -1,7 +1,7 @@
 -- The counts of the network of a process by a token: no event has a hazard. At most one crossing and one act lag behind the environment, or are ahead of it,
 -- and the token stands at one row.
-use Rattle.std.proofs.Common.{eq-eqb, eqb-true, ◌≡◌, ◌⊎◌, inl, inr, ⊎_elim, ℕ, suc, ◌+◌, ◌<◌, ◌≤◌, Bool, true, false, true≢false, IsTrue, List, [], ◌∷◌, refl, sym, ap, ◌∙◌, subst, arith, if◌then◌else◌}
-use Rattle.std.specs.Prelude.{not, ◌&&◌, nat_eq}
+use Rattle.std.proofs.Common.{eq-eqb, eqb-true, ◌≡◌, ◌⊎◌, inl, inr, ⊎_elim, ℕ, suc, ◌+◌, ◌<◌, ◌≤◌, Bool, true, false, true≢false, List, refl, sym, ap, ◌∙◌, subst, arith}
+use Rattle.std.specs.Prelude.{not, ◌&&◌}
 use Rattle.std.proofs.lemmas.Bool.{cases_eq, cases_lt, cases_Bool}
 use Rattle.place_graph.specs.declared.leg.Leg.{Leg}
 use Rattle.place_graph.specs.Points.{Among}
@@ -15,7 +15,7 @@ use Rattle.plain_split.proofs.OneWaitSums.{sum_le, sum_gap, sum_some, sum_only, 
 use Rattle.plain_split.proofs.OneWaitCounts.{some_symbol, one_at, grew_bound}
 use Rattle.plain_split.proofs.OneWaitTraces.{place_one}
 use Rattle.token_split.specs.TokenChart.{Wire, Take, Burst, Return, Row, Cross, Call, Begin, Put, Exit, Give}
-use Rattle.token_split.proofs.TokenSums.{sum_gap_two, place_once, sum_late, sum_low, sum_grew}
+use Rattle.token_split.proofs.TokenSums.{sum_gap_two, sum_late, sum_low, sum_grew}
 
 not_true : (b : Bool) → true ≡ not b → b ≡ false
 not_true true e = absurd (true≢false e)
@@ -500,13 +500,19 @@ module _ (L : List Leg) (out : ℕ → Bool) (key : Leg → ℕ) (home no wait :
       -- where none lags, the token is here, or where the act from here leads
       rows_steady : Steady → (token : ℕ) × Rows token
       rows_steady y = elim act_here [
-        | inl (n, j, from) ↦ (n.to, λ l i.
-            let none : one_if l.from here ≡ 0 = one_other l.from here (λ e. apart n l j i (from ∙ sym e)) in
-            omega (arith, begun_low l i, s.flow l.from, crossed_steady l i y, none, ahead n j from l i))
-        | inr none ↦ (here, λ l i.
-            let zero : sum_where L (to_at l.from) (λ m. one_if m.from here) ≡ 0 = sum_low L (to_at l.from) (λ m. one_if m.from here)
-            (λ m a x. one_other m.from here (none m (leaves l m i a (sym (eqb-true l.from m.to x))))) in
-            omega (arith, begun_low l i, s.flow l.from, crossed_steady l i y, zero))
+        | inl (n, j, from) ↦ (
+          n.to,
+          λ l i.
+              let none : one_if l.from here ≡ 0 = one_other l.from here (λ e. apart n l j i (from ∙ sym e)) in
+              omega (arith, begun_low l i, s.flow l.from, crossed_steady l i y, none, ahead n j from l i),
+        )
+        | inr none ↦ (
+          here,
+          λ l i.
+              let zero : sum_where L (to_at l.from) (λ m. one_if m.from here) ≡ 0 = sum_low L (to_at l.from) (λ m. one_if m.from here)
+              (λ m a x. one_other m.from here (none m (leaves l m i a (sym (eqb-true l.from m.to x))))) in
+              omega (arith, begun_low l i, s.flow l.from, crossed_steady l i y, zero),
+        )
       ]
         where
           ahead : (n : Leg) → Acts n → n.from ≡ here → (l : Leg) → Inputs l → sum_where L (to_at l.from) (λ m. one_if m.from here) ≤ one_if l.from n.to
@@ -517,9 +523,12 @@ module _ (L : List Leg) (out : ℕ → Bool) (key : Leg → ℕ) (home no wait :
               sum_one L (to_at l.from) (λ m. one_if m.from here) one.chart.increase (λ m a. small m.from here)
                   (λ m q a b x z p r. let g : Acts m = leaves l m i a (sym (eqb-true l.from m.to x)) in one.chart.lone q m (leaves l q i b (sym (eqb-true l.from q.to z))).0 a (leaves l q i b (sym (eqb-true l.from q.to z))).1 (stands m p ∙ sym (stands q r))),
             )
-            | inr e ↦ omega (arith, sum_low L (to_at l.from) (λ m. one_if m.from here) (λ m a x. one_other m.from here (λ z.
-                let same : m ≡ n = one.chart.lone n m j.0 a j.1 (z ∙ sym from) in
-                e.0 (eqb-true l.from m.to x ∙ ap (λ (q : Leg). q.to) same))))
+            | inr e ↦ omega (
+              arith,
+              sum_low L (to_at l.from) (λ m. one_if m.from here) (λ m a x. one_other m.from here (λ z.
+                  let same : m ≡ n = one.chart.lone n m j.0 a j.1 (z ∙ sym from) in
+                  e.0 (eqb-true l.from m.to x ∙ ap (λ (q : Leg). q.to) same))),
+            )
           ]
             where
               stands : (m : Leg) → 0 < one_if m.from here → m.from ≡ here
@@ -557,11 +566,14 @@ module _ (L : List Leg) (out : ℕ → Bool) (key : Leg → ℕ) (home no wait :
           crossed_here : sum_where L (from_at l.from) D ≤ crossed F l.from + one_if l.from z.leg.from
           crossed_here = elim (one_at l.from z.leg.from) [
             | inl e ↦ omega (arith, e.1, sum_late L one.chart.increase (from_at l.from) (λ l. F (cross l)) D z.leg (λ n a x. z.most n (input n a x)))
-            | inr e ↦ omega (arith, sum_le L (from_at l.from) D (λ l. F (cross l)) (λ n a x. omega (
+            | inr e ↦ omega (
               arith,
-              z.most n (input n a x),
-              one_other n.place z.leg.place (λ q. e.0 (eqb-true l.from n.from x ∙ ap (λ (y : Leg). y.from) (place_one L one.chart.increase n z.leg a z.inputs.0 q))),
-            )))
+              sum_le L (from_at l.from) D (λ l. F (cross l)) (λ n a x. omega (
+                arith,
+                z.most n (input n a x),
+                one_other n.place z.leg.place (λ q. e.0 (eqb-true l.from n.from x ∙ ap (λ (y : Leg). y.from) (place_one L one.chart.increase n z.leg a z.inputs.0 q))),
+              )),
+            )
           ]
 
       -- the token is at one row, and where a crossing lags, at its

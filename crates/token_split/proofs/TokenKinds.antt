@@ -1,5 +1,5 @@
 -- The components of the chart of a process by a token are those that are counted of its graph, sort by sort.
-use Rattle.std.proofs.Common.{◌≡◌, inl, inr, ℕ, zero, suc, ◌+◌, ◌<◌, Bool, true, false, true≢false, cond, filter, nat_eq, List, [], ◌∷◌, ◌++◌, length, map, get_or, refl, sym, ap, ◌∙◌, subst, arith, if◌then◌else◌, length-append, eq-eqb, ne_eqb, Option, Some, None}
+use Rattle.std.proofs.Common.{◌≡◌, inl, inr, ℕ, zero, suc, ◌+◌, ◌<◌, Bool, true, false, cond, filter, nat_eq, List, [], ◌∷◌, ◌++◌, length, map, get_or, refl, sym, ap, ◌∙◌, subst, arith, if◌then◌else◌, length-append, eq-eqb, ne_eqb, Option, Some, None}
 use Rattle.std.specs.Prelude.{◌&&◌, ◌||◌, drop}
 use Rattle.std.specs.List.{list_any, range_with_len}
 use Rattle.std.proofs.lemmas.Bool.{cases_eq}
@@ -9,9 +9,9 @@ use Rattle.cmd_tree.specs.Lists.{is_in}
 use Rattle.basic_kinds.specs.declared.kind.Kind.{Kind}
 use Rattle.basic_kinds.specs.declared.kind.Kind.TheVariants as kind
 use Rattle.basic_kinds.specs.declared.shape.Shape.{Shape}
-use Rattle.basic_kinds.specs.ShapeParts.{label, part_at, part_rows, part_columns, local_part}
+use Rattle.basic_kinds.specs.ShapeParts.{label, part_at}
 use Rattle.basic_kinds.specs.Sorts.{Sort, Wires, Iwires, Sources, Sinks, Forks, Joins, Merges, Toggles, Waits, Sequencers, is_of, same_sort, how_many, how_many_below}
-use Rattle.basic_kinds.specs.Sums.{Counted, One, Wide, Wait, so_many, one_if_wide, wait_sort, wide_sum, total_of}
+use Rattle.basic_kinds.specs.Sums.{Counted, One, Wide, so_many, one_if_wide, wait_sort, wide_sum, total_of}
 use Rattle.place_graph.specs.declared.wait_graph.WaitGraph.{WaitGraph}
 use Rattle.place_graph.specs.declared.wait_graph.Act.{Act}
 use Rattle.place_graph.specs.declared.wait_graph.Start.{Start}
@@ -25,7 +25,6 @@ use Rattle.place_graph.specs.Style.{is_exit, has_entry, style_of}
 use Rattle.place_graph.specs.Sums as sums
 use Rattle.place_graph.specs.Sums.{counted, of_style, entries_of, begins_at, gate, exits, leading, meeting, symbols_at, outs_at}
 use Rattle.net_core.specs.declared.spec.NodeSpec.{NodeSpec}
-use Rattle.net_core.specs.declared.spec.NodeSpec.TheVariants.{Kind as Basic}
 use Rattle.net_core.specs.Wiring.{Node}
 use Rattle.net_laws.specs.Charts.{charted, node_of}
 use Rattle.net_laws.proofs.Among.{Among}
@@ -34,10 +33,8 @@ use Rattle.plain_split.specs.OneWait.{many}
 use Rattle.plain_split.specs.OneWaitSums.{is_component}
 use Rattle.plain_split.proofs.SharedSums.{bit, total_append, so_none, wide_long, wide_numbers}
 use Rattle.plain_split.proofs.OneWaitKinds.{many_append, many_map, many_filter, many_same, many_none}
-use Rattle.plain_split.proofs.OneWaitDrawn.{in_low}
 use Rattle.plain_split.proofs.OneWaitWires.{map_long}
 use Rattle.plain_split.proofs.OneWaitWritten.{same_member, filter_same, same_begin}
-use Rattle.token_split.specs.TokenChart as web
 use Rattle.token_split.specs.TokenChart.{Name, Join, Meet, Calls, Gate, Spread, Returns, Entry, Shows, Links, links, is_kept, is_open, gate_kind, pair, spec_at, all_names, components, token_chart, listed}
 use Rattle.token_split.proofs.TokenParts.{IsPart, local_of, kind_of, shape_of, dw_is, no_crossing}
 

@@ -1,5 +1,5 @@
 -- A fair process is implemented by its chart by a token.
-use Rattle.std.proofs.Common.{◌≡◌, ◌↔◌, inl, inr, ℕ, ◌+◌, ◌<◌, ◌≤◌, ◌^◌, Bool, true, nat_eq, eq-eqb, IsTrue, List, [], ◌∷◌, ◌++◌, length, map, refl, sym, ap, ◌∙◌, subst, arith, is_some, append-nil, length-append, Option, Some, None}
+use Rattle.std.proofs.Common.{◌≡◌, ◌↔◌, ℕ, ◌+◌, ◌<◌, ◌≤◌, ◌^◌, Bool, true, nat_eq, eq-eqb, IsTrue, List, [], length, map, refl, sym, ap, ◌∙◌, subst, arith, is_some, append-nil, length-append, Option, Some, None}
 use Rattle.std.specs.Prelude.{get_or, not, drop}
 use Rattle.std.specs.List.{AllByRecursion, range_with_len}
 use Rattle.cmd_tree.specs.declared.tree.Proc.{Proc}

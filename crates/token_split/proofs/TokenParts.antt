@@ -1,5 +1,5 @@
 -- A part of the crossings of a network by a token: its kind, and what its traces are.
-use Rattle.std.proofs.Common.{◌≡◌, ◌↔◌, inl, inr, ℕ, zero, suc, ◌+◌, ◌<◌, ◌≤◌, ◌^◌, Bool, true, false, true≢false, nat_lt, ◌&&◌, List, [], ◌∷◌, ◌++◌, length, map, get_or, refl, sym, ap, ◌∙◌, subst, arith, IsTrue, lt-ltb}
+use Rattle.std.proofs.Common.{◌≡◌, ◌↔◌, inl, inr, ℕ, zero, suc, ◌+◌, ◌<◌, ◌^◌, Bool, true, false, true≢false, nat_lt, ◌&&◌, List, [], ◌∷◌, length, map, get_or, refl, sym, ap, ◌∙◌, subst, arith, lt-ltb}
 use Rattle.std.specs.List.{list_all}
 use Rattle.std.proofs.lemmas.List.{get_or-map}
 use Rattle.cmd_tree.specs.Rounds.{tally, naught, Follows}
@@ -9,7 +9,7 @@ use Rattle.basic_kinds.specs.declared.shape.Shape.{Shape}
 use Rattle.basic_kinds.specs.Shapes.{is_rising, is_within, IsShape, IsShape-prop}
 use Rattle.basic_kinds.specs.ShapeParts.{has_row, has_column, local_part, local_crossing}
 use Rattle.basic_kinds.specs.Sorts.{how_many_below}
-use Rattle.basic_kinds.specs.Kinds.{inputs_of, outputs_of, IsWellFormed}
+use Rattle.basic_kinds.specs.Kinds.{IsWellFormed}
 use Rattle.place_graph.specs.declared.wait_graph.Cross.{Cross as Crossing}
 use Rattle.net_core.specs.declared.spec.NodeSpec.TheVariants.{Kind as Basic}
 use Rattle.net_core.specs.Specs.{May, IsFormed, outs_of, sides}

@@ -1,5 +1,5 @@
 -- The network of a process by a token has no hazard: its web keeps the counts beside the story of the environment.
-use Rattle.std.proofs.Common.{eq-eqb, eqb-true, ◌≡◌, ◌⊎◌, inl, inr, ℕ, suc, ◌+◌, ◌<◌, ◌≤◌, nat_eq, Bool, true, false, true≢false, filter, List, [], ◌∷◌, ◌++◌, map, refl, sym, ap, ◌∙◌, subst, arith, if◌then◌else◌}
+use Rattle.std.proofs.Common.{eqb-true, ◌≡◌, ◌⊎◌, inl, inr, ℕ, suc, ◌+◌, ◌<◌, ◌≤◌, nat_eq, Bool, true, false, true≢false, filter, List, [], ◌∷◌, ◌++◌, map, refl, sym, ap, ◌∙◌, subst, arith, if◌then◌else◌}
 use Rattle.std.proofs.Math.Path.{fun_ext}
 use Rattle.cmd_tree.specs.Meaning.{symbols}
 use Rattle.cmd_tree.specs.Rounds.{tally, naught}
@@ -14,15 +14,15 @@ use Rattle.net_laws.proofs.Webs.{Web, WebSound}
 use Rattle.net_laws.proofs.Told.{Lawful, sent, got, Flows, Longer, longer_at, longer_away, Tends, web_sound}
 use Rattle.net_laws.proofs.Woven.{grew_le, sent_grew, got_grew, got_same, sent_same}
 use Rattle.net_laws.proofs.Among.{Among}
-use Rattle.net_laws.proofs.Rows.{among_left, among_right, among_either}
+use Rattle.net_laws.proofs.Rows.{among_right, among_either}
 use Rattle.plain_split.proofs.OneWaitSums.{sum_le}
 use Rattle.plain_split.proofs.OneWaitWeb.{sum_of, MergeOn}
 use Rattle.plain_split.proofs.OneWaitCounts.{some_symbol}
 use Rattle.plain_split.proofs.OneWaitTraces.{among_map, map_among, sum_of_map, sum_of_some, place_one, done_one, times_one}
 use Rattle.token_split.specs.TokenChart.{Wire, Take, Burst, Return, Row, Cross, Call, Begin, Put, Exit, Give, Name, Env, Join, Meet, Calls, Gate, Spread, Returns, Entry, Shows, Links, same_wire, driver, receiver, cross_wire}
-use Rattle.token_split.proofs.TokenWeb.{MeetOn, RowOn, ColumnOn, CrossOn, Crosses, of_row, of_column, word, Rule, web, lawful}
-use Rattle.token_split.proofs.TokenRules.{gate_out, gate_in, gate_some, join_out, join_in, join_some, join_taken, fork_out, fork_in, fork_some, take_end, give_end, word_takes, word_gives}
-use Rattle.token_split.proofs.TokenCounts.{Numbered, Acts, Inputs, bur, cross, back, row, call, begin, exit, entered, crossed, met, left, given_by, Lines, Front, Ties, Pends, Fires, lines_more, front_more, lines_fired, front_fired, next_act, next_wait, leaves, from_wait, apart, act_has, input_has, inputs_with, one_burst, one_key, one_leg, same_burst, one_cross, given, Lags, pending, meets, Stand, stand, row_token, take_free, take_lands, burst_free, burst_lands, columns_even, rows_even, one_lag, cross_free, cross_lands, call_free, call_lands, begin_free, begin_lands, begin_exits, put_free, put_lands, exit_free, exit_lands, back_free, back_lands, row_free, give_free, Shown, give_lands}
+use Rattle.token_split.proofs.TokenWeb.{MeetOn, Crosses, of_row, of_column, word, Rule, web, lawful}
+use Rattle.token_split.proofs.TokenRules.{gate_out, gate_in, gate_some, join_out, join_in, join_some, fork_out, fork_in, take_end, give_end, word_takes, word_gives}
+use Rattle.token_split.proofs.TokenCounts.{Numbered, Acts, Inputs, bur, cross, back, row, call, begin, exit, entered, crossed, met, left, given_by, Lines, Front, Ties, Pends, Fires, lines_more, front_more, lines_fired, front_fired, next_act, next_wait, apart, act_has, input_has, inputs_with, one_burst, one_key, one_leg, one_cross, given, meets, take_free, take_lands, burst_free, columns_even, rows_even, cross_free, cross_lands, call_free, call_lands, begin_free, begin_lands, begin_exits, put_free, put_lands, exit_free, exit_lands, back_free, back_lands, row_free, give_free, Shown, give_lands}
 
 -- The links are those of the legs.
 pub record Drawn (L : List Leg) (out : ℕ → Bool) (g : Links) (key : Leg → ℕ) (home no wait : ℕ → ℕ) : Type 0 where
@@ -340,7 +340,7 @@ module _ (L : List Leg) (out : ℕ → Bool) (T : List ℕ → Type 0) (g : Link
         let b : key l ≡ z.crossing.burst = cc in
         let p : ℕ = g.row_part (wait l.from) in (
           (let less : of_row (g.meets p) (at_part t p) (wait l.from) < at_part t p (row_of l.from) = subst (λ y. of_row (g.meets p) (at_part t p) y < at_part t p (Row y)) (sym x) z.row in
-          omega (arith, less, row_total t l j)),
+              omega (arith, less, row_total t l j)),
           λ a h.
               let less : of_column (g.meets p) (at_part t p) (key l) < at_part t p (bur_of l) = subst (λ y. of_column (g.meets p) (at_part t p) y < at_part t p (Burst y)) (sym b) z.column in
               let there : of_column (g.meets (g.column_part (key l))) (at_part t (g.column_part (key l))) (key l) < at_part t (g.column_part (key l)) (bur_of l)
