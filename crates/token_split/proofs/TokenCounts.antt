@@ -11,27 +11,17 @@ use Rattle.place_graph.specs.Chart.{Has, LeadsOn, Chart, Homes, Under, Stands, s
 use Rattle.place_graph.proofs.Sums.{sum_plus, one_same, one_other}
 use Rattle.net_laws.proofs.Told.{Flows}
 use Rattle.net_laws.proofs.Woven.{Grew}
-use Rattle.plain_split.proofs.OneWaitSums.{sum_le, sum_gap, sum_some, sum_only, sum_one, sum_tests}
-use Rattle.plain_split.proofs.OneWaitCounts.{some_symbol, one_at, grew_bound}
+use Rattle.plain_split.proofs.OneWaitSums.{one_at, sum_le, sum_gap, sum_some, sum_only, sum_one, sum_tests}
+use Rattle.plain_split.proofs.OneWaitCounts.{some_symbol, grew_bound}
+use Rattle.plain_split.proofs.SharedGiven.{Gives, ShownBy, given_from, given_lands, given_free, shown_lands}
 use Rattle.plain_split.proofs.OneWaitTraces.{place_one}
+use Rattle.plain_split.proofs.OneWaitDrawn.{was_not, and_both, both_and}
 use Rattle.token_split.specs.TokenChart.{Wire, Take, Burst, Return, Row, Cross, Call, Begin, Put, Exit, Give}
 use Rattle.token_split.proofs.TokenSums.{sum_gap_two, sum_late, sum_low, sum_grew}
 
-not_true : (b : Bool) → true ≡ not b → b ≡ false
-not_true true e = absurd (true≢false e)
-not_true false e = refl
-
-not_false : (b : Bool) → false ≡ not b → b ≡ true
-not_false true e = refl
-not_false false e = absurd (true≢false (sym e))
-
-and_two : (a b : Bool) → (a && b) ≡ true → (a ≡ true) × (b ≡ true)
-and_two true b h = (refl, h)
-and_two false b h = absurd (true≢false (sym h))
-
-two_and : (a b : Bool) → a ≡ true → b ≡ true → (a && b) ≡ true
-two_and true b h k = k
-two_and false b h k = absurd (true≢false (sym h))
+was_act : (b : Bool) → not b ≡ false → b ≡ true
+was_act true e = refl
+was_act false e = absurd (true≢false e)
 
 -- The legs lead on from each other, `key l` is the number of the burst of an input leg, `no x` that of the act at the point x, and `wait x` that of the wait there.
 pub record Numbered (L : List Leg) (out : ℕ → Bool) (key : Leg → ℕ) (home no wait : ℕ → ℕ) : Type 0 where
@@ -156,7 +146,7 @@ module _ (L : List Leg) (out : ℕ → Bool) (key : Leg → ℕ) (home no wait :
     enters m l i a e =
         let n : LeadsOn L l = one.on l a in
         let same : n.next ≡ m = one.chart.lone m n.next i.0 n.among i.1 (n.from ∙ e) in
-        (a, not_true (is_act l) (sym i.1 ∙ sym (ap is_act same) ∙ n.turns))
+        (a, was_not (is_act l) (sym n.turns ∙ ap is_act same ∙ i.1))
 
     -- the act that an input leads to
     pub next_act : (l : Leg) → Inputs l → (m : Leg) × Acts m × (m.from ≡ l.to)
@@ -184,7 +174,7 @@ module _ (L : List Leg) (out : ℕ → Bool) (key : Leg → ℕ) (home no wait :
     leaves l m i a e =
         let n : LeadsOn L m = one.on m a in
         let j : Inputs n.next = from_wait l n.next i n.among (n.from ∙ e) in
-        (a, not_false (is_act m) (sym j.1 ∙ n.turns))
+        (a, was_act (is_act m) (sym n.turns ∙ j.1))
 
     pub act_has : (m : Leg) (a : ℕ) → Acts m → Has m a → out a ≡ true
     act_has m a i h = one.chart.dirs m a i.0 h ∙ i.1
@@ -359,11 +349,11 @@ module _ (L : List Leg) (out : ℕ → Bool) (key : Leg → ℕ) (home no wait :
 
       input_here : (l : Leg) → Among L l → comes_here l ≡ true → Inputs l × (l.to ≡ here)
       input_here l a h =
-          let (x, y) = and_two (not (is_act l)) (to_at here l) h in
-          ((a, not_true (is_act l) (sym x)), sym (eqb-true here l.to y))
+          let (x, y) = and_both (not (is_act l)) (to_at here l) h in
+          ((a, was_not (is_act l) x), sym (eqb-true here l.to y))
 
       here_input : (l : Leg) → Inputs l → l.to ≡ here → comes_here l ≡ true
-      here_input l i e = two_and (not (is_act l)) (to_at here l) (ap not i.1) (eq-eqb here l.to (sym e))
+      here_input l i e = both_and (not (is_act l)) (to_at here l) (ap not i.1) (eq-eqb here l.to (sym e))
 
       lag_of : (l : Leg) → Inputs l → l.to ≡ here → F (cross l) < D l → Lags
       lag_of l i to less = record {
@@ -487,10 +477,10 @@ module _ (L : List Leg) (out : ℕ → Bool) (key : Leg → ℕ) (home no wait :
       act_here = elim (cases_lt 0 (sum_where L test (λ l. 1))) [
         | inl some ↦
             let (m, a, x, y) = sum_some L test (λ l. 0) (λ l. 1) (omega (arith, some, sum_low L test (λ l. 0) (λ l a x. refl))) in
-            let (p, q) = and_two (is_act m) (from_at here m) x in
+            let (p, q) = and_both (is_act m) (from_at here m) x in
             inl (m, (a, p), sym (eqb-true here m.from q))
         | inr none ↦ inr (λ m i e.
-            let x : test m ≡ true = two_and (is_act m) (from_at here m) i.1 (eq-eqb here m.from (sym e)) in
+            let x : test m ≡ true = both_and (is_act m) (from_at here m) i.1 (eq-eqb here m.from (sym e)) in
             omega (arith, none, sum_gap L test (λ l. 0) (λ l. 1) (λ l a y. omega arith) m i.0 x, sum_low L test (λ l. 0) (λ l a x. refl)))
       ]
         where
@@ -724,61 +714,29 @@ module _ (L : List Leg) (out : ℕ → Bool) (key : Leg → ℕ) (home no wait :
 
       -- ---- what is given
 
-      put_low : (a : ℕ) → out a ≡ true → (m : Leg) → Among L m → in_leg a m ≡ true → F (Put (no m.from) a) ≤ D m + one_if m.from here
-      put_low a o m i h = let j : Acts m = acts_with m a i o h in omega (arith, chain m a j h)
-
-      here_once : (a : ℕ) → out a ≡ true → sum_where L (in_leg a) (λ m. one_if m.from here) ≤ 1
-      here_once a o = sum_one L (in_leg a) (λ m. one_if m.from here) one.chart.increase (λ m i. small m.from here)
-          (λ l m i j h x p q. elim (one_at l.from here) [
-            | inl e ↦ elim (one_at m.from here) [
-              | inl z ↦ let y : Acts m = acts_with m a j o x in one.chart.lone m l j i y.1 (e.0 ∙ sym z.0)
-              | inr z ↦ absurd (omega (arith, z.1, q))
-            ]
-            | inr e ↦ absurd (omega (arith, e.1, p))
-          ])
+      gives : Gives L out D here came (λ m a. F (Put (no m.from) a)) (λ m a. P (Put (no m.from) a)) (λ a. F (Give a)) (λ a. P (Give a))
+      gives = record {
+        told = λ m a i e h. k.told m a (i, e) h;
+        handed = λ m a. given (Put (no m.from) a);
+        low = λ m a i e h. omega (arith, chain m a (i, e) h);
+        shown = v.gives;
+        gave = t.gave;
+        sent = λ a. given (Give a);
+      }
 
       pub given_chain : (a : ℕ) → out a ≡ true
           → (sum_where L (in_leg a) D ≤ given_by P a) × (given_by P a ≤ given_by F a) × (given_by F a ≤ suc (sum_where L (in_leg a) D))
           × (F (Give a) ≤ given_by P a) × (P (Give a) ≡ sum_where L (in_leg a) D + came a) × (P (Give a) ≤ F (Give a))
-      given_chain a o = (
-        sum_le L (in_leg a) D (λ m. P (Put (no m.from) a)) (λ m i h. k.told m a (acts_with m a i o h) h),
-        sum_le L (in_leg a) (λ m. P (Put (no m.from) a)) (λ m. F (Put (no m.from) a)) (λ m i h. given (Put (no m.from) a)),
-        omega (arith, sum_le L (in_leg a) (λ m. F (Put (no m.from) a)) (λ m. D m + one_if m.from here) (put_low a o), sum_plus L (in_leg a) D (λ m. one_if m.from here), here_once a o),
-        v.gives a o,
-        t.gave a o,
-        given (Give a),
-      )
+      given_chain a o = given_from L out one.chart D here came (λ m a. F (Put (no m.from) a)) (λ m a. P (Put (no m.from) a)) (λ a. F (Give a)) (λ a. P (Give a)) gives a o
 
       pub put_lands : (m : Leg) (a : ℕ) → Acts m → Has m a → F (Put (no m.from) a) ≡ suc (P (Put (no m.from) a)) → given_by P a ≡ F (Give a)
-      put_lands m a j h x =
-          omega (
-            arith,
-            given_chain a (act_has m a j h),
-            sum_gap L (in_leg a) (λ m. P (Put (no m.from) a)) (λ m. F (Put (no m.from) a)) (λ m i h. given (Put (no m.from) a)) m j.0 h,
-          )
+      put_lands m a j h x = given_lands L out one.chart D here came (λ m a. F (Put (no m.from) a)) (λ m a. P (Put (no m.from) a)) (λ a. F (Give a)) (λ a. P (Give a)) gives m a j.0 (act_has m a j h) h x
 
       pub give_free : (a : ℕ) → out a ≡ true → F (Give a) < given_by P a → F (Give a) ≡ P (Give a)
-      give_free a o less = omega (arith, given_chain a o, less)
+      give_free a o less = given_free L out one.chart D here came (λ m a. F (Put (no m.from) a)) (λ m a. P (Put (no m.from) a)) (λ a. F (Give a)) (λ a. P (Give a)) gives a o less
 
-      -- the act from here has put more than the environment has come to
-      pub record Shown (a : ℕ) : Type 0 where
-        pub act : Leg
-        pub acts : Acts act
-        pub has : Has act a
-        pub from : act.from ≡ here
-        pub none : came a ≡ 0
-        pub more : D act < P (Put (no act.from) a)
+      abbrev pub Shown : ℕ → Type 0
+      Shown a = ShownBy L D here came (λ m a. P (Put (no m.from) a)) a
 
       pub give_lands : (a : ℕ) → out a ≡ true → F (Give a) ≡ suc (P (Give a)) → Shown a
-      give_lands a o x =
-          let c = given_chain a o in
-          let (m, i, h, less) = sum_some L (in_leg a) D (λ m. P (Put (no m.from) a)) (omega (arith, c, x)) in
-          let j : Acts m = acts_with m a i o h in
-          record {
-            act = m;
-            acts = j;
-            has = h;
-            from = elim (one_at m.from here) [ inl e ↦ e.0 | inr e ↦ absurd (omega (arith, e.1, less, chain m a j h)) ];
-            none = omega (arith, c, x);
-            more = less;
-          }
+      give_lands a o x = shown_lands L out one.chart D here came (λ m a. F (Put (no m.from) a)) (λ m a. P (Put (no m.from) a)) (λ a. F (Give a)) (λ a. P (Give a)) gives a o x

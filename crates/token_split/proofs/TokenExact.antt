@@ -10,9 +10,9 @@ use Rattle.net_laws.proofs.Webs.{Web, WebExact}
 use Rattle.net_laws.proofs.Told.{Lawful, sent, got, Flows, Went, Leads, pulls, ends, web_exact}
 use Rattle.net_laws.proofs.Woven.{Grew, grew_le, grew_same, grew_other, grew_unique, sent_grew, got_grew, got_same, sent_same}
 use Rattle.net_laws.proofs.Rows.{among_left, among_right}
-use Rattle.plain_split.proofs.OneWaitSums.{sum_gap, sum_some}
+use Rattle.plain_split.proofs.OneWaitSums.{one_at, sum_gap, sum_some}
 use Rattle.plain_split.proofs.OneWaitWeb.{sum_of}
-use Rattle.plain_split.proofs.OneWaitCounts.{one_at, some_symbol}
+use Rattle.plain_split.proofs.OneWaitCounts.{some_symbol}
 use Rattle.plain_split.proofs.OneWaitTraces.{among_map, map_among}
 use Rattle.token_split.specs.TokenChart.{Wire, Take, Burst, Return, Row, Cross, Call, Begin, Put, Exit, Give, Name, Env, Join, Calls, Gate, Spread, Returns, Entry, Links, same_wire, cross_wire}
 use Rattle.token_split.proofs.TokenWeb.{Rule, of_column, web, lawful}

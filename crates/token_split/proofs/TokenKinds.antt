@@ -31,6 +31,7 @@ use Rattle.net_laws.proofs.Among.{Among}
 use Rattle.plain_split.specs.SharedPaths.{joined}
 use Rattle.plain_split.specs.OneWait.{many}
 use Rattle.plain_split.specs.OneWaitSums.{is_component}
+use Rattle.plain_split.proofs.SharedAdmitted.{eq_flip}
 use Rattle.plain_split.proofs.SharedSums.{bit, total_append, so_none, wide_long, wide_numbers}
 use Rattle.plain_split.proofs.OneWaitKinds.{many_append, many_map, many_filter, many_same, many_none}
 use Rattle.plain_split.proofs.OneWaitWires.{map_long}
@@ -202,12 +203,9 @@ gate_sort : {A : Type 0} (f : A → ℕ) (xs : List A) (k : Sort) → bit (is_of
 gate_sort f [] k = ap bit (source_sort k)
 gate_sort f (x ∷ xs) k = ap bit (iwire_sort k)
 
-flip : (a b : ℕ) → nat_eq a b ≡ nat_eq b a
-flip a b = elim (cases_eq a b) [ inl e ↦ eq-eqb a b e ∙ sym (eq-eqb b a (sym e)) | inr e ↦ ne_eqb a b e ∙ sym (ne_eqb b a (λ x. e (sym x))) ]
-
 exit_same : (w : ℕ) (o : Option ℕ) → is_in w (listed o) ≡ is_exit w o
 exit_same w None = refl
-exit_same w (Some x) = or_false (nat_eq w x) ∙ flip w x
+exit_same w (Some x) = or_false (nat_eq w x) ∙ eq_flip w x
   where
     or_false : (b : Bool) → (b || false) ≡ b
     or_false true = refl

@@ -39,6 +39,7 @@ use Rattle.plain_split.proofs.SharedEntries.{leg_comes}
 use Rattle.plain_split.proofs.SharedCommands.{numbered_known, comes_of_leg, one_traces}
 use Rattle.plain_split.proofs.OneWaitLong.{few_long, once_times}
 use Rattle.plain_split.proofs.OneWaitWires.{marks_places, map_long, filter_long, range_long, range_each, long_each, total_le}
+use Rattle.plain_split.proofs.RoundsStyle.{order_long}
 use Rattle.plain_split.proofs.OneWaitLaw.{known_of, trace_empty, trace_front}
 use Rattle.token_split.specs.TokenChart.{Links, links, lines, token_chart, pair, is_open, listed as exit_list}
 use Rattle.token_split.specs.TokenNet.{HasToken, NeedsToken, IsTokenNet, links_of, token_circuit}
@@ -50,7 +51,7 @@ use Rattle.token_split.proofs.TokenCharted.{IsNarrow, token_right}
 use Rattle.token_split.proofs.TokenStart.{first_leg}
 use Rattle.token_split.proofs.TokenDrawn.{numbers, drawn, listed, parted}
 use Rattle.token_split.proofs.TokenKinds.{token_kinds}
-use Rattle.token_split.proofs.TokenWires.{long_in_order, acts_few, lines_few}
+use Rattle.token_split.proofs.TokenWires.{acts_few, lines_few}
 
 exit_few : (o : Option ℕ) → length (exit_list o) ≤ 1
 exit_few None = omega arith
@@ -103,7 +104,7 @@ module _ (out : ℕ → Bool) (p : Proc) (proc : IsProc p) (body : IsTrue (is_so
   crosses = in_order (map (cross (legs p)) (inputs_of (legs p)))
 
   crosses_low : length crosses ≤ places_of_proc p
-  crosses_low = omega (arith, long_in_order (map (cross (legs p)) (inputs_of (legs p))), map_long (cross (legs p)) (inputs_of (legs p)), inputs_low)
+  crosses_low = omega (arith, order_long (map (cross (legs p)) (inputs_of (legs p))), map_long (cross (legs p)) (inputs_of (legs p)), inputs_low)
 
   pub narrow : places_of_proc p < 2 ^ 26 → names < 2 ^ 26 → IsNarrow g
   narrow few_places few_names = record {

@@ -15,14 +15,10 @@ use Rattle.net_laws.proofs.Among.{Among, Distinct, among_at, at_among, distinct_
 use Rattle.net_laws.proofs.Rules.{RoundsOn, rounds_spec}
 use Rattle.net_laws.proofs.KindRules.{KindOn, kind_spec}
 use Rattle.plain_split.proofs.OneWaitWeb.{sum_of}
+use Rattle.plain_split.proofs.OneWaitWires.{total_first}
 use Rattle.plain_split.proofs.OneWaitChart.{as_long, join_traces}
 use Rattle.token_split.specs.TokenChart.{Wire, Burst, Row, same_wire, cross_wire}
 use Rattle.token_split.proofs.TokenWeb.{wires_decide, of_row, of_column, Crosses as Meets, RowOn, ColumnOn, CrossOn, MeetOn}
-
-total_first : (k : ℕ) (u : ℕ → ℕ) → total (suc k) u ≡ u 0 + total k (λ i. u (suc i))
-unfolding total
-total_first zero u = omega arith
-total_first (suc k) u = omega (arith, total_first k u)
 
 total_empty : (u : ℕ → ℕ) → total 0 u ≡ 0
 unfolding total

@@ -22,18 +22,6 @@ use Rattle.token_split.proofs.TokenRoutes.{Listed}
 
 -- ---- crossings by act
 
-long_put : (c : Crossing) (cs : List Crossing) → length (put c cs) ≡ suc (length cs)
-long_put c [] = refl
-long_put c (d ∷ cs) = by (is_before d c) (long_put c cs)
-  where
-    by : (b : Bool) → length (put c cs) ≡ suc (length cs) → length (if b then d ∷ put c cs else c ∷ d ∷ cs) ≡ suc (suc (length cs))
-    by true e = ap suc e
-    by false e = refl
-
-pub long_in_order : (cs : List Crossing) → length (in_order cs) ≡ length cs
-long_in_order [] = refl
-long_in_order (c ∷ cs) = long_put c (in_order cs) ∙ ap suc (long_in_order cs)
-
 more_by : (c : Crossing) (cs : List Crossing) (n : ℕ) → length (filter (λ (k : Crossing). nat_eq k.act n) (c ∷ cs)) ≤ one_if n c.act + length (filter (λ (k : Crossing). nat_eq k.act n) cs)
 more_by c cs n = by (nat_eq c.act n) refl
   where
