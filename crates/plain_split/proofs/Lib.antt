@@ -49,6 +49,8 @@ pub mod RowsFilled
 pub mod SharedAdmitted
 pub mod SharedCommands
 pub mod SharedEntries
+pub mod SharedGiven
 pub mod SharedLists
 pub mod SharedPaths
+pub mod SharedSeen
 pub mod SharedSums

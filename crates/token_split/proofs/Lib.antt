@@ -12,4 +12,6 @@ pub mod TokenLists
 pub mod TokenStart
 pub mod TokenDrawn
 pub mod TokenWires
+pub mod TokenKinds
+pub mod TokenLaw
 pub mod TokenExamples

@@ -1,5 +1,5 @@
 -- The links of the graph of a process are those of its legs.
-use Rattle.std.proofs.Common.{◌≡◌, ◌↔◌, ◌⊎◌, inl, inr, ⊎_elim, ℕ, zero, suc, ◌+◌, ◌<◌, ◌≤◌, Bool, true, false, true≢false, cond, filter, List, [], ◌∷◌, ◌++◌, length, map, get_or, refl, sym, ap, ◌∙◌, subst, arith, if◌then◌else◌, eq-eqb, eqb-true, lt-ltb, Option, Some, None}
+use Rattle.std.proofs.Common.{◌≡◌, ◌↔◌, ◌⊎◌, inl, inr, ℕ, ◌<◌, ◌≤◌, Bool, true, false, true≢false, filter, List, [], ◌∷◌, length, map, get_or, refl, sym, ap, ◌∙◌, subst, arith, if◌then◌else◌, eq-eqb, eqb-true, lt-ltb, Option, Some, None}
 use Rattle.std.specs.Prelude.{not, ◌&&◌, nat_eq, nat_lt}
 use Rattle.std.specs.List.{range_with_len, position_or_len, list_any, list_all}
 use Rattle.std.proofs.lemmas.Bool.{cases_lt, cases_eq, cases_Bool}
@@ -16,28 +16,26 @@ use Rattle.place_graph.specs.declared.wait_graph.Cross.{Cross as Crossing}
 use Rattle.place_graph.specs.declared.wait_graph.Start.TheVariants as start
 use Rattle.place_graph.specs.Points.{Among as Member}
 use Rattle.place_graph.specs.Graph.{is_act, acts_of, inputs_of, act_points, wait_points, index_of, bursts_of, points_of, same_set, syms, burst_number, home_number, cross, act, numbered, number_at}
-use Rattle.place_graph.specs.Tale.{one_if, times}
+use Rattle.place_graph.specs.Tale.{one_if}
 use Rattle.place_graph.specs.Chart.{Has, Chart, LeadsOn, sum_where, to_at, from_at, in_leg}
 use Rattle.place_graph.specs.Drawable.{AreSets}
 use Rattle.place_graph.proofs.Sums.{times_from_in, one_same, one_other}
-use Rattle.place_graph.proofs.Positions.{some_position, none_place, place_is}
+use Rattle.place_graph.proofs.Positions.{some_position, place_is}
 use Rattle.place_graph.proofs.Listed.{point_at, index_one, in_points, points_in, leg_at, homes_known, filter_one, burst_numbered, Numbered as BurstNumber}
-use Rattle.net_laws.proofs.Among.{Among, Distinct, at_among, among_at, distinct_at}
+use Rattle.net_laws.proofs.Among.{Among, Distinct, at_among, distinct_at}
 use Rattle.net_laws.proofs.Rows.{distinct_row}
-use Rattle.plain_split.specs.OneWait.{is_begin}
 use Rattle.plain_split.proofs.SharedLists.{among_filter, filter_among, distinct_filter}
 use Rattle.plain_split.proofs.OneWaitSums.{sum_tests}
 use Rattle.plain_split.proofs.OneWaitWeb.{sum_of}
 use Rattle.plain_split.proofs.OneWaitTraces.{among_map, map_among}
-use Rattle.plain_split.proofs.OneWaitChart.{as_long}
 use Rattle.plain_split.proofs.OneWaitDrawn as graph
 use Rattle.plain_split.proofs.OneWaitDrawn.{among_in, in_among, once_distinct, sum_by_test, sum_in_order, sum_legs, sum_acts, first_place, apart_new, slice_low, map_two, long_map, id_map, low_in, in_low, places_once, range_by, was_not, same_bool, and_both, both_and}
-use Rattle.token_split.specs.TokenChart.{Links, links, is_open, part_of, meets_in, pair, exits_at, listed as exit_list}
+use Rattle.token_split.specs.TokenChart.{Links, links, is_open, pair, listed as exit_list}
 use Rattle.token_split.proofs.TokenCounts.{Numbered, Acts, Inputs, enters, next_act, next_wait, apart, from_wait, leaves, one_burst, one_leg, one_cross, inputs_with, input_has}
 use Rattle.token_split.proofs.TokenTraces.{Drawn}
 use Rattle.token_split.proofs.TokenRoutes.{Listed}
 use Rattle.token_split.proofs.TokenParts.{IsPart}
-use Rattle.token_split.proofs.TokenLists.{any_among, among_any, all_list, sum_chosen, filter_twice, place_below, distinct_new, Sorted, sorted_in_order, sorted_filter, distinct_in_order, all_mapped, local_rises, label_low, label_joins}
+use Rattle.token_split.proofs.TokenLists.{any_among, among_any, sum_chosen, filter_twice, place_below, distinct_new, sorted_in_order, sorted_filter, distinct_in_order, all_mapped, local_rises, label_low, label_joins}
 
 -- a list of at most one is without repetition
 exit_once : (o : Option ℕ) → Distinct (exit_list o)

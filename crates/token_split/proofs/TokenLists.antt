@@ -1,17 +1,17 @@
 -- Lists that are filtered, crossings in order, and the labels of lines.
-use Rattle.std.proofs.Common.{◌≡◌, ◌⊎◌, inl, inr, ⊎_elim, ℕ, zero, suc, ◌+◌, ◌-◌, ◌<◌, ◌≤◌, Bool, true, false, true≢false, cond, filter, ◌||◌, ◌&&◌, nat_eq, nat_lt, List, [], ◌∷◌, ◌++◌, length, map, get_or, refl, sym, ap, ◌∙◌, subst, arith, if◌then◌else◌, eq-eqb, ne_eqb, eqb-true, lt-ltb, le-ltb, IsTrue}
-use Rattle.std.specs.List.{AllByRecursion, list_all, list_any, range_with_len}
+use Rattle.std.proofs.Common.{◌≡◌, ◌⊎◌, inl, inr, ⊎_elim, ℕ, zero, suc, ◌+◌, ◌-◌, ◌<◌, ◌≤◌, Bool, true, false, true≢false, cond, filter, ◌||◌, ◌&&◌, nat_eq, nat_lt, List, [], ◌∷◌, ◌++◌, length, map, get_or, refl, sym, ap, ◌∙◌, subst, arith, if◌then◌else◌, eq-eqb, ne_eqb, lt-ltb, le-ltb}
+use Rattle.std.specs.List.{list_all, list_any, range_with_len}
 use Rattle.std.specs.Ordering.{nat_cmp, ordering_then, is_lt}
 use Rattle.std.specs.declared.cmp.Ordering.{Ordering}
 use Rattle.std.specs.declared.cmp.Ordering.TheVariants.{Less, Equal, Greater}
-use Rattle.std.proofs.lemmas.Bool.{cases_Bool, cases_lt, cases_eq, cases_order}
+use Rattle.std.proofs.lemmas.Bool.{cases_lt, cases_eq, cases_order}
 use Rattle.basic_kinds.specs.Shapes.{is_before as is_shape_before, is_rising}
 use Rattle.basic_kinds.specs.ShapeParts.{lesser, merged, label, has_row, has_column, local_crossing}
 use Rattle.basic_kinds.specs.Sorts.{how_many, how_many_below}
 use Rattle.place_graph.specs.declared.wait_graph.Cross.{Cross as Crossing}
 use Rattle.place_graph.specs.Graph.{with_new, is_before, put, in_order}
-use Rattle.net_laws.proofs.Among.{Among, Distinct, at_among, among_at}
-use Rattle.net_laws.proofs.Rows.{among_left, among_right, among_either, distinct_both}
+use Rattle.net_laws.proofs.Among.{Among, Distinct}
+use Rattle.net_laws.proofs.Rows.{distinct_both}
 use Rattle.plain_split.proofs.SharedSums.{bit}
 use Rattle.plain_split.proofs.OneWaitWeb.{sum_of}
 use Rattle.plain_split.proofs.OneWaitDrawn.{sum_by_test, both_and}
@@ -153,16 +153,22 @@ by_burst a b = ordering_then (nat_cmp a.burst b.burst) (nat_cmp a.act b.act)
 
 before_le : (a b : Crossing) → is_before a b ≡ true → Le a b
 before_le a b h = ⊎_elim
-    (λ e. inr (e, ⊎_elim (λ i. omega (arith, i)) (λ s. ⊎_elim (λ l. omega (arith, l))
-    (λ l. absurd (true≢false (sym h ∙ ap (λ x. is_lt (ordering_then x (by_burst a b))) (cmp_equal a.wait b.wait e) ∙ ap (λ x. is_lt (ordering_then x (nat_cmp a.act b.act))) (cmp_greater a.burst b.burst l)))) s) (cases_order a.burst b.burst)))
+    (λ e. inr (
+      e,
+      ⊎_elim (λ i. omega (arith, i)) (λ s. ⊎_elim (λ l. omega (arith, l))
+          (λ l. absurd (true≢false (sym h ∙ ap (λ x. is_lt (ordering_then x (by_burst a b))) (cmp_equal a.wait b.wait e) ∙ ap (λ x. is_lt (ordering_then x (nat_cmp a.act b.act))) (cmp_greater a.burst b.burst l)))) s) (cases_order a.burst b.burst),
+    ))
     (λ s. ⊎_elim (λ l. inl l) (λ l. absurd (true≢false (sym h ∙ ap (λ x. is_lt (ordering_then x (by_burst a b))) (cmp_greater a.wait b.wait l)))) s)
     (cases_order a.wait b.wait)
 
 not_before_le : (a b : Crossing) → is_before a b ≡ false → Le b a
 not_before_le a b h = ⊎_elim
-    (λ e. inr (sym e, ⊎_elim (λ i. omega (arith, i)) (λ s. ⊎_elim
-    (λ l. absurd (true≢false (sym (ap (λ x. is_lt (ordering_then x (by_burst a b))) (cmp_equal a.wait b.wait e) ∙ ap (λ x. is_lt (ordering_then x (nat_cmp a.act b.act))) (cmp_less a.burst b.burst l)) ∙ h)))
-    (λ l. omega (arith, l)) s) (cases_order a.burst b.burst)))
+    (λ e. inr (
+      sym e,
+      ⊎_elim (λ i. omega (arith, i)) (λ s. ⊎_elim
+          (λ l. absurd (true≢false (sym (ap (λ x. is_lt (ordering_then x (by_burst a b))) (cmp_equal a.wait b.wait e) ∙ ap (λ x. is_lt (ordering_then x (nat_cmp a.act b.act))) (cmp_less a.burst b.burst l)) ∙ h)))
+          (λ l. omega (arith, l)) s) (cases_order a.burst b.burst),
+    ))
     (λ s. ⊎_elim (λ l. absurd (true≢false (sym (ap (λ x. is_lt (ordering_then x (by_burst a b))) (cmp_less a.wait b.wait l)) ∙ h))) (λ l. inl l) s)
     (cases_order a.wait b.wait)
 

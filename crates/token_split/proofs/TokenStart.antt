@@ -1,5 +1,5 @@
 -- A leg leads from where a process begins.
-use Rattle.std.proofs.Common.{◌≡◌, inl, inr, ℕ, suc, ◌+◌, ◌<◌, List, [], ◌∷◌, ◌++◌, refl, sym, ap, ◌∙◌, subst, arith, IsTrue, true≢false, Option, Some, None, is_some}
+use Rattle.std.proofs.Common.{◌≡◌, inl, ℕ, ◌+◌, ◌<◌, List, ◌++◌, refl, sym, ap, subst, arith, IsTrue, true≢false, Option, Some, None, is_some}
 use Rattle.cmd_tree.specs.declared.tree.Proc.{Proc}
 use Rattle.cmd_tree.specs.Tree.{TItem, TSeq, TSeqs, TBurst, TAlt, Stop, Or, Done, Then, places_of, places_in}
 use Rattle.cmd_tree.specs.Limits.{IsItem, AreSeqs, IsFull, IsPart, IsProc, count_of, of_part}

@@ -1,5 +1,5 @@
 -- How many wires the network of a process by a token has, and how wide its groups are.
-use Rattle.std.proofs.Common.{◌≡◌, inl, inr, ℕ, zero, suc, ◌+◌, ◌<◌, ◌≤◌, Bool, true, false, true≢false, nat_eq, cond, filter, List, [], ◌∷◌, ◌++◌, length, map, refl, sym, ap, ◌∙◌, arith, if◌then◌else◌, length-append, eqb-true}
+use Rattle.std.proofs.Common.{◌≡◌, inl, inr, ℕ, suc, ◌+◌, ◌<◌, ◌≤◌, Bool, true, false, true≢false, nat_eq, cond, filter, List, [], ◌∷◌, ◌++◌, length, map, refl, sym, ap, ◌∙◌, arith, if◌then◌else◌, length-append, eqb-true}
 use Rattle.std.specs.List.{range_with_len}
 use Rattle.std.proofs.lemmas.Bool.{cases_Bool, cases_eq}
 use Rattle.basic_kinds.specs.Totals.{total}
@@ -14,25 +14,13 @@ use Rattle.plain_split.specs.SharedPaths.{joined}
 use Rattle.plain_split.proofs.SharedLists.{joined_among, distinct_joined}
 use Rattle.plain_split.proofs.OneWaitWeb.{sum_of}
 use Rattle.plain_split.proofs.OneWaitLong.{total_plus, total_zero, total_single_low, few_long, once_times}
-use Rattle.plain_split.proofs.OneWaitWires.{marks_in, total_le, total_legs, long_each, long_joined, long_append, long_map, long_filter, long_same, long_few, map_long, filter_long, long_one, in_range, range_once, range_long, range_each}
+use Rattle.plain_split.proofs.OneWaitWires.{marks_in, total_le, total_legs, long_each, long_joined, long_append, long_map, long_filter, long_same, long_few, map_long, filter_long, long_one, range_once, range_long, range_each}
 use Rattle.token_split.specs.TokenChart.{Wire, Take, Burst, Return, Row, Call, Begin, Put, Exit, Give, Name, Join, Meet, Calls, Gate, Spread, Returns, Entry, Shows, Links, cross_wire, one_wire, inputs, is_given, is_kept, all_names, components, lines}
 use Rattle.token_split.proofs.TokenCounts.{Numbered}
 use Rattle.token_split.proofs.TokenTraces.{Drawn}
 use Rattle.token_split.proofs.TokenRoutes.{Listed}
 
 -- ---- crossings by act
-
-long_put : (c : Crossing) (cs : List Crossing) → length (put c cs) ≡ suc (length cs)
-long_put c [] = refl
-long_put c (d ∷ cs) = by (is_before d c) (long_put c cs)
-  where
-    by : (b : Bool) → length (put c cs) ≡ suc (length cs) → length (if b then d ∷ put c cs else c ∷ d ∷ cs) ≡ suc (suc (length cs))
-    by true e = ap suc e
-    by false e = refl
-
-pub long_in_order : (cs : List Crossing) → length (in_order cs) ≡ length cs
-long_in_order [] = refl
-long_in_order (c ∷ cs) = long_put c (in_order cs) ∙ ap suc (long_in_order cs)
 
 more_by : (c : Crossing) (cs : List Crossing) (n : ℕ) → length (filter (λ (k : Crossing). nat_eq k.act n) (c ∷ cs)) ≤ one_if n c.act + length (filter (λ (k : Crossing). nat_eq k.act n) cs)
 more_by c cs n = by (nat_eq c.act n) refl
