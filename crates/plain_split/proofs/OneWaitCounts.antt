@@ -1,6 +1,6 @@
 -- The counts of the network of a process with one wait: no event has a hazard. At most one act is ahead of the environment, the one that leads from
 -- where the process stands.
-use Rattle.std.proofs.Common.{eq-eqb, eqb-true, ne_eqb, ◌≡◌, ◌⊎◌, inl, inr, ⊎_elim, ℕ, suc, ◌+◌, ◌<◌, ◌≤◌, Bool, true, false, true≢false, IsTrue, List, [], ◌∷◌, length, refl, sym, ap, ◌∙◌, subst, arith, if◌then◌else◌}
+use Rattle.std.proofs.Common.{eq-eqb, eqb-true, ◌≡◌, ◌⊎◌, inl, inr, ⊎_elim, ℕ, suc, ◌+◌, ◌<◌, ◌≤◌, Bool, true, false, true≢false, IsTrue, List, [], ◌∷◌, length, refl, sym, ap, ◌∙◌, subst, arith}
 use Rattle.std.specs.Prelude.{not}
 use Rattle.std.proofs.lemmas.Bool.{cases_eq}
 use Rattle.cmd_tree.specs.declared.tree.Mark.{Mark}
@@ -11,12 +11,11 @@ use Rattle.place_graph.specs.Points.{Among}
 use Rattle.place_graph.specs.Graph.{is_act}
 use Rattle.place_graph.specs.Tale.{one_if}
 use Rattle.place_graph.specs.Chart.{Has, LeadsOn, Chart, Under, Stands, sum_where, to_at, from_at, in_leg}
-use Rattle.place_graph.proofs.Sums.{sum_plus}
 use Rattle.net_laws.proofs.Told.{Flows}
 use Rattle.net_laws.proofs.Woven.{Grew}
 use Rattle.plain_split.specs.OneWait.{Wire, Take, Burst, Call, Begin, Put, Give}
 use Rattle.plain_split.proofs.SharedGiven.{Gives, ShownBy, given_from, given_lands, given_free, shown_lands}
-use Rattle.plain_split.proofs.OneWaitSums.{one_at, sum_le, sum_gap, sum_some, sum_only, sum_one}
+use Rattle.plain_split.proofs.OneWaitSums.{one_at, sum_le, sum_gap, sum_only}
 
 -- the legs of a process with one wait, each of which leads on
 pub record IsOneWait (L : List Leg) (out : ℕ → Bool) : Type 0 where
