@@ -3,6 +3,7 @@ pub mod SharedPaths
 pub mod SharedSeen
 pub mod OneWaitSums
 pub mod SharedGiven
+pub mod SharedTold
 pub mod OneWaitWeb
 pub mod OneWaitCounts
 pub mod OneWaitTraces
