@@ -54,3 +54,4 @@ pub mod SharedLists
 pub mod SharedPaths
 pub mod SharedSeen
 pub mod SharedSums
+pub mod SharedTold

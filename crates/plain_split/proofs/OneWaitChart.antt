@@ -1,5 +1,5 @@
 -- The chart of a process with one wait is a chart of its web.
-use Rattle.std.proofs.Common.{◌≡◌, ◌↔◌, ◌⊎◌, inl, inr, ⊎_elim, ℕ, zero, suc, ◌+◌, ◌-◌, ◌<◌, ◌≤◌, ◌^◌, Bool, true, false, true≢false, filter, List, [], ◌∷◌, ◌++◌, length, map, replicate, get_or, refl, sym, ap, ◌∙◌, subst, arith, if◌then◌else◌, append_assoc, append-nil, length-append}
+use Rattle.std.proofs.Common.{◌≡◌, ◌↔◌, ◌⊎◌, inl, inr, ⊎_elim, ℕ, zero, suc, ◌+◌, ◌-◌, ◌<◌, ◌≤◌, ◌^◌, Bool, true, false, true≢false, filter, List, [], ◌∷◌, ◌++◌, length, map, replicate, get_or, refl, sym, ap, ◌∙◌, subst, arith, if◌then◌else◌, length-append}
 use Rattle.std.specs.Prelude.{◌||◌, IsTrue}
 use Rattle.std.specs.List.{AllByRecursion, range_with_len}
 use Rattle.std.proofs.lemmas.Bool.{cases_Bool, cases_lt}
@@ -16,8 +16,7 @@ use Rattle.net_core.specs.declared.spec.NodeSpec.TheVariants.{Kind as Basic}
 use Rattle.net_core.specs.Specs.{outs_of, sides, May, IsFormed, is_kind}
 use Rattle.place_graph.specs.declared.leg.Leg.{Leg}
 use Rattle.place_graph.specs.Points.{Among as Member}
-use Rattle.place_graph.specs.Tale.{Tale}
-use Rattle.place_graph.specs.Chart.{Has, Plays, Grows}
+use Rattle.place_graph.specs.Chart.{Has, Plays}
 use Rattle.net_laws.specs.Charts.{Chart, charted}
 use Rattle.net_laws.specs.Implementing.{Implements}
 use Rattle.net_laws.proofs.Webs.{Web, Decides}

@@ -1,6 +1,6 @@
 -- The counts of the network of a process with one wait: no event has a hazard. At most one act is ahead of the environment, the one that leads from
 -- where the process stands.
-use Rattle.std.proofs.Common.{eq-eqb, eqb-true, ne_eqb, ◌≡◌, ◌⊎◌, inl, inr, ⊎_elim, ℕ, suc, ◌+◌, ◌<◌, ◌≤◌, Bool, true, false, true≢false, IsTrue, List, [], ◌∷◌, length, refl, sym, ap, ◌∙◌, subst, arith, if◌then◌else◌}
+use Rattle.std.proofs.Common.{eq-eqb, eqb-true, ◌≡◌, ◌⊎◌, inl, inr, ⊎_elim, ℕ, suc, ◌+◌, ◌<◌, ◌≤◌, Bool, true, false, true≢false, IsTrue, List, [], ◌∷◌, length, refl, sym, ap, ◌∙◌, subst, arith}
 use Rattle.std.specs.Prelude.{not}
 use Rattle.std.proofs.lemmas.Bool.{cases_eq}
 use Rattle.cmd_tree.specs.declared.tree.Mark.{Mark}
@@ -11,12 +11,12 @@ use Rattle.place_graph.specs.Points.{Among}
 use Rattle.place_graph.specs.Graph.{is_act}
 use Rattle.place_graph.specs.Tale.{one_if}
 use Rattle.place_graph.specs.Chart.{Has, LeadsOn, Chart, Under, Stands, sum_where, to_at, from_at, in_leg}
-use Rattle.place_graph.proofs.Sums.{sum_plus}
 use Rattle.net_laws.proofs.Told.{Flows}
 use Rattle.net_laws.proofs.Woven.{Grew}
 use Rattle.plain_split.specs.OneWait.{Wire, Take, Burst, Call, Begin, Put, Give}
+use Rattle.plain_split.proofs.SharedTold.{Told, told_more}
 use Rattle.plain_split.proofs.SharedGiven.{Gives, ShownBy, given_from, given_lands, given_free, shown_lands}
-use Rattle.plain_split.proofs.OneWaitSums.{one_at, sum_le, sum_gap, sum_some, sum_only, sum_one}
+use Rattle.plain_split.proofs.OneWaitSums.{one_at, sum_le, sum_gap, sum_only}
 
 -- the legs of a process with one wait, each of which leads on
 pub record IsOneWait (L : List Leg) (out : ℕ → Bool) : Type 0 where
@@ -70,9 +70,8 @@ module _ (L : List Leg) (out : ℕ → Bool) (key : Leg → ℕ) (no : ℕ → �
     pub give : (a : ℕ) → out a ≡ true → F (Give a) ≤ given_by P a
 
   -- what the environment was given had been put
-  pub record Front (D : Leg → ℕ) (here : ℕ) (came : ℕ → ℕ) (P : Wire → ℕ) : Type 0 where
-    pub told : (m : Leg) (a : ℕ) → Acts m → Has m a → D m ≤ P (Put (no m.from) a)
-    pub ahead : (m : Leg) (a : ℕ) → Acts m → Has m a → m.from ≡ here → D m + came a ≤ P (Put (no m.from) a)
+  abbrev pub Front : (D : Leg → ℕ) (here : ℕ) (came : ℕ → ℕ) (P : Wire → ℕ) → Type 0
+  Front D here came P = Told L D here came (λ m a. P (Put (no m.from) a))
 
   -- the symbols that came are those of the story
   pub record Ties (D : Leg → ℕ) (came : ℕ → ℕ) (F P : Wire → ℕ) : Type 0 where
@@ -89,10 +88,7 @@ module _ (L : List Leg) (out : ℕ → Bool) (key : Leg → ℕ) (no : ℕ → �
   }
 
   pub front_more : (D : Leg → ℕ) (here : ℕ) (came : ℕ → ℕ) (P Q : Wire → ℕ) → Front D here came P → ((w : Wire) → P w ≤ Q w) → Front D here came Q
-  front_more D here came P Q v h = record {
-    told = λ m a i x. omega (arith, v.told m a i x, h (Put (no m.from) a));
-    ahead = λ m a i x e. omega (arith, v.ahead m a i x e, h (Put (no m.from) a));
-  }
+  front_more D here came P Q v h = told_more L D here came (λ m a. P (Put (no m.from) a)) (λ m a. Q (Put (no m.from) a)) v (λ m a. h (Put (no m.from) a))
 
   -- the wire may be fired
   pub record Guard (F P : Wire → ℕ) (w : Wire) : Type 0 where

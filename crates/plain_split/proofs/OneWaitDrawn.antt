@@ -30,7 +30,7 @@ use Rattle.plain_split.specs.OneWait.{Links, is_begin, links}
 use Rattle.plain_split.proofs.SharedLists.{among_filter, filter_among, distinct_filter}
 use Rattle.plain_split.proofs.OneWaitSums.{sum_tests, sum_only, sum_one}
 use Rattle.plain_split.proofs.OneWaitWeb.{sum_of}
-use Rattle.plain_split.proofs.OneWaitCounts.{IsOneWait, some_symbol, Acts, Inputs, enters, next_act, one_input, acts_with}
+use Rattle.plain_split.proofs.OneWaitCounts.{IsOneWait, some_symbol, Acts, Inputs, enters, next_act, one_input}
 use Rattle.plain_split.proofs.OneWaitTraces.{Drawn, among_map, map_among}
 use Rattle.plain_split.proofs.OneWaitRoutes.{Listed}
 

@@ -18,6 +18,7 @@ use Rattle.net_laws.proofs.Among.{Among, all_among}
 use Rattle.net_laws.proofs.Rules.{RoundsOn}
 use Rattle.plain_split.specs.OneWait.{Wire, Take, Burst, Call, Begin, Put, Give, Name, Env, Join, Calls, Gate, Spread, Shows, Links, same_wire, driver, receiver}
 use Rattle.plain_split.proofs.OneWaitWeb.{wires_decide, sum_of, MergeOn, GateOn, SpreadOn, word, Rule, web, lawful}
+use Rattle.plain_split.proofs.SharedTold.{told_taken, told_given}
 use Rattle.plain_split.proofs.OneWaitCounts.{IsOneWait, some_symbol, Acts, Inputs, bur, entered, given_by, Lines, Front, Ties, Guard, lines_more, front_more, lines_fired, next_act, act_has, one_input, apart, take_free, take_lands, burst_free, burst_lands, call_free, call_lands, begin_free, begin_lands, put_free, put_lands, give_free, Shown, give_lands}
 
 -- The links are those of the legs: `key l` is the burst of an input leg, and `no x` the number of the act at the point x.
@@ -95,27 +96,6 @@ spread_put (x ∷ rest) n a c (inr (i, all)) =
 pub spread_begin : (rest : List ℕ) (n : ℕ) (c : Wire → ℕ) (x : ℕ) → Among x rest → ((a : ℕ) → Among a rest → c (Begin n) ≡ c (Put n a)) → SpreadOn rest n c (Begin n)
 spread_begin [] n c x i h = absurd i
 spread_begin (y ∷ rest) n c x i h = inl (inl refl, all_map_by (λ o. c (Begin n) ≡ c o) (Put n) (y ∷ rest) h)
-
--- ---- legs by their places
-
-pub place_one : (L : List Leg) → Increase L → (l m : Leg) → Member L l → Member L m → l.place ≡ m.place → l ≡ m
-place_one [] i l m a b e = absurd a
-place_one (x ∷ L) i l m (inl p) (inl q) e = sym p ∙ q
-place_one (x ∷ L) i l m (inl p) (inr b) e = absurd (omega (arith, later_places x.place L i.0 m b, ap (λ (y : Leg). y.place) p, e))
-place_one (x ∷ L) i l m (inr a) (inl q) e = absurd (omega (arith, later_places x.place L i.0 l a, ap (λ (y : Leg). y.place) q, e))
-place_one (x ∷ L) i l m (inr a) (inr b) e = place_one L i.1 l m a b e
-
-pub done_one : (past : List Leg) (l m : Leg) → ((m.place ≡ l.place) × (done (l ∷ past) m ≡ suc (done past m))) ⊎ ((m.place ≡ l.place → ⊥) × (done (l ∷ past) m ≡ done past m))
-done_one past l m = elim (cases_eq m.place l.place) [
-  | inl e ↦ inl (e, omega (arith, one_same m.place l.place e))
-  | inr e ↦ inr (e, omega (arith, one_other m.place l.place e))
-]
-
-pub times_one : (came : List ℕ) (a b : ℕ) → ((b ≡ a) × (times b (a ∷ came) ≡ suc (times b came))) ⊎ ((b ≡ a → ⊥) × (times b (a ∷ came) ≡ times b came))
-times_one came a b = elim (cases_eq b a) [
-  | inl e ↦ inl (e, omega (arith, one_same b a e))
-  | inr e ↦ inr (e, omega (arith, one_other b a e))
-]
 
 -- ---- the word of the environment
 
@@ -484,31 +464,6 @@ module _ (L : List Leg) (out : ℕ → Bool) (T : List ℕ → Type 0) (g : Link
     pub fresh : (a : ℕ) (n : Grows L i.story a i.tale) → came a ≡ 0
     fresh a n = omega (arith, n.grown.within a, one.chart.few n.grown.leg a n.grown.among, one_same a a refl)
 
-    front_taken : (a : ℕ) (n : Grows L i.story a i.tale) (Q : Wire → ℕ) → out a ≡ false → ((w : Wire) → P w ≤ Q w) → Front L out key no (done n.next.past) n.next.here (λ b. times b n.next.came) Q
-    front_taken a n Q o more = at n.grown.how
-      where
-        l : Leg
-        l = n.grown.leg
-
-        j : Input l
-        j = (n.grown.among, sym (one.chart.dirs l a n.grown.among n.grown.has) ∙ o)
-
-        at : ((n.next.past ≡ i.tale.past) × (n.next.here ≡ i.tale.here) × (n.next.came ≡ a ∷ i.tale.came))
-            ⊎ ((n.next.past ≡ n.grown.leg ∷ i.tale.past) × (n.next.here ≡ n.grown.leg.to) × (n.next.came ≡ []) × ((b : ℕ) → times b (symbols n.grown.leg.marks) ≡ times b (a ∷ i.tale.came)))
-            → Front L out key no (done n.next.past) n.next.here (λ b. times b n.next.came) Q
-        at (inl (p, h, c)) = record {
-          told = λ m b k x. omega (arith, i.front.told m b k x, more (Put (no m.from) b), ap (λ q. done q m) p);
-          ahead = λ m b k x e. absurd (apart L out key no one m l k j (e ∙ h ∙ sym n.grown.from));
-        }
-        at (inr (p, h, c, all)) =
-            let told : (m : Leg) (b : ℕ) → Act m → Has m b → done n.next.past m ≤ Q (Put (no m.from) b) = λ m b k x. elim (done_one i.tale.past l m) [
-              | inl z ↦
-                  let same : m ≡ l = place_one L one.chart.increase m l k.0 j.0 z.0 in
-                  absurd (true≢false (sym k.1 ∙ ap is_act same ∙ j.1))
-              | inr z ↦ omega (arith, i.front.told m b k x, more (Put (no m.from) b), ap (λ q. done q m) p, z.1)
-            ] in
-            record { told = told; ahead = λ m b k x e. omega (arith, told m b k x, ap (times b) c) }
-
     send_take : (a : ℕ) → Allowed t (Take a) → Sends t (Take a)
     send_take a (o, r) =
         let n : Grows L i.story a i.tale = story_grows a r in
@@ -528,60 +483,9 @@ module _ (L : List Leg) (out : ℕ → Bool) (T : List ℕ → Type 0) (g : Link
                   put = λ m a k x e. absurd (cc);
                   give = λ a o e. absurd (cc);
                 }) (sent_grew Name Wire net fine t (Take a) u h)) (λ v. omega (arith, got_same Name Wire net fine t (Take a) u h v));
-            front = front_taken a n (got net u) o (λ v. omega (arith, got_same Name Wire net fine t (Take a) u h v));
+            front = told_taken L out one.chart i.story i.tale a n (λ m b. P (Put (no m.from) b)) (λ m b. got net u (Put (no m.from) b)) i.front (λ m b. omega (arith, got_same Name Wire net fine t (Take a) u h (Put (no m.from) b))) o;
           },
         )
-
-    front_given : (a : ℕ) (n : Grows L i.story a i.tale) (Q : Wire → ℕ) → Shown L out key no one D here came F P st ties f i.lines i.front a → ((w : Wire) → P w ≤ Q w)
-        → Front L out key no (done n.next.past) n.next.here (λ b. times b n.next.came) Q
-    front_given a n Q s more = at n.grown.how
-      where
-        m : Leg
-        m = s.act
-
-        same : n.grown.leg ≡ m
-        same = one.chart.lone m n.grown.leg s.acts.0 n.grown.among s.acts.1 (n.grown.from ∙ sym s.from)
-
-        put_more : (b : ℕ) → Has m b → ((b ≡ a) × (times b (a ∷ i.tale.came) ≡ suc (came b))) ⊎ ((b ≡ a → ⊥) × (times b (a ∷ i.tale.came) ≡ came b)) → D m + times b (a ∷ i.tale.came) ≤ P (Put (no m.from) b)
-        put_more b x (inl (e, z)) = omega (arith, s.more, s.none, ap (λ y. P (Put (no m.from) y)) e, z, ap came e)
-        put_more b x (inr (e, z)) = omega (arith, i.front.ahead m b s.acts x s.from, z)
-
-        at : ((n.next.past ≡ i.tale.past) × (n.next.here ≡ i.tale.here) × (n.next.came ≡ a ∷ i.tale.came))
-            ⊎ ((n.next.past ≡ n.grown.leg ∷ i.tale.past) × (n.next.here ≡ n.grown.leg.to) × (n.next.came ≡ []) × ((b : ℕ) → times b (symbols n.grown.leg.marks) ≡ times b (a ∷ i.tale.came)))
-            → Front L out key no (done n.next.past) n.next.here (λ b. times b n.next.came) Q
-        at (inl (p, h, c)) = record {
-          told = λ k b j x. omega (arith, i.front.told k b j x, more (Put (no k.from) b), ap (λ q. done q k) p);
-          ahead = λ k b j x e.
-              let z : k ≡ m = one.chart.lone m k s.acts.0 j.0 s.acts.1 (e ∙ h ∙ sym s.from) in
-              omega (
-                arith,
-                put_more b (subst (λ y. Has y b) z x) (times_one i.tale.came a b),
-                more (Put (no k.from) b),
-                ap (λ q. done q k) p,
-                ap D z,
-                ap (λ (y : Leg). P (Put (no y.from) b)) z,
-                ap (times b) c,
-              );
-        }
-        at (inr (p, h, c, all)) =
-            let told : (k : Leg) (b : ℕ) → Act k → Has k b → done n.next.past k ≤ Q (Put (no k.from) b) = λ k b j x. elim (done_one i.tale.past n.grown.leg k) [
-              | inl z ↦
-                  let e : k ≡ n.grown.leg = place_one L one.chart.increase k n.grown.leg j.0 n.grown.among z.0 in
-                  let y : k ≡ m = e ∙ same in
-                  omega (
-                    arith,
-                    put_more b (subst (λ y. Has y b) y x) (times_one i.tale.came a b),
-                    all b,
-                    times_from_in b (symbols n.grown.leg.marks) (subst (λ y. Has y b) e x),
-                    z.1,
-                    more (Put (no k.from) b),
-                    ap (λ q. done q k) p,
-                    ap D y,
-                    ap (λ (y : Leg). P (Put (no y.from) b)) y,
-                  )
-              | inr z ↦ omega (arith, i.front.told k b j x, more (Put (no k.from) b), ap (λ q. done q k) p, z.1)
-            ] in
-            record { told = told; ahead = λ k b j x e. omega (arith, told k b j x, ap (times b) c) }
 
     land_give : (m : Leg) (a : ℕ) → Act m → Has m a → F (Give a) ≡ suc (P (Give a)) → Lands t (Give a) × ((u : Name → List Wire) → Longer Name Wire t Env (Give a) u → Held u)
     land_give m a j h x =
@@ -596,7 +500,7 @@ module _ (L : List Leg) (out : ℕ → Bool) (T : List ℕ → Type 0) (g : Link
             is = ap (word out) (longer_at t Env (Give a) u l Env refl) ∙ give_end out (t Env) a o ∙ ap (λ v. v ++ a ∷ []) i.is;
             lines = subst (λ F. Lines L out key no F (got net u)) (sym (fun_ext (sent_same Name Wire net fine t (Give a) u l)))
                 (lines_more L out key no F P (got net u) i.lines (grew_le P (Give a) (got net u) (got_grew Name Wire net fine t (Give a) u l)));
-            front = front_given a n (got net u) s (grew_le P (Give a) (got net u) (got_grew Name Wire net fine t (Give a) u l));
+            front = told_given L out one.chart i.story i.tale a n (λ m b. P (Put (no m.from) b)) (λ m b. got net u (Put (no m.from) b)) i.front (λ m b. grew_le P (Give a) (got net u) (got_grew Name Wire net fine t (Give a) u l) (Put (no m.from) b)) s;
           },
         )
 

@@ -13,8 +13,8 @@ use Rattle.net_laws.proofs.Told.{Flows}
 use Rattle.net_laws.proofs.Woven.{Grew}
 use Rattle.plain_split.proofs.OneWaitSums.{one_at, sum_le, sum_gap, sum_some, sum_only, sum_one, sum_tests}
 use Rattle.plain_split.proofs.OneWaitCounts.{some_symbol, grew_bound}
+use Rattle.plain_split.proofs.SharedTold.{Told, told_more, place_one}
 use Rattle.plain_split.proofs.SharedGiven.{Gives, ShownBy, given_from, given_lands, given_free, shown_lands}
-use Rattle.plain_split.proofs.OneWaitTraces.{place_one}
 use Rattle.plain_split.proofs.OneWaitDrawn.{was_not, and_both, both_and}
 use Rattle.token_split.specs.TokenChart.{Wire, Take, Burst, Return, Row, Cross, Call, Begin, Put, Exit, Give}
 use Rattle.token_split.proofs.TokenSums.{sum_gap_two, sum_late, sum_low, sum_grew}
@@ -94,8 +94,7 @@ module _ (L : List Leg) (out : ℕ → Bool) (key : Leg → ℕ) (home no wait :
 
   -- what the environment was given had been put, and a crossing comes no more often than its burst is taken
   pub record Front (D : Leg → ℕ) (here : ℕ) (came : ℕ → ℕ) (F P : Wire → ℕ) : Type 0 where
-    pub told : (m : Leg) (a : ℕ) → Acts m → Has m a → D m ≤ P (Put (no m.from) a)
-    pub ahead : (m : Leg) (a : ℕ) → Acts m → Has m a → m.from ≡ here → D m + came a ≤ P (Put (no m.from) a)
+    pub gave : Told L D here came (λ m a. P (Put (no m.from) a))
     pub behind : (l : Leg) → Inputs l → F (cross l) ≤ D l
 
   -- the symbols that came are those of the story
@@ -119,8 +118,7 @@ module _ (L : List Leg) (out : ℕ → Bool) (key : Leg → ℕ) (home no wait :
 
   pub front_more : (D : Leg → ℕ) (here : ℕ) (came : ℕ → ℕ) (F P Q : Wire → ℕ) → Front D here came F P → ((w : Wire) → P w ≤ Q w) → Front D here came F Q
   front_more D here came F P Q v h = record {
-    told = λ m a i x. omega (arith, v.told m a i x, h (Put (no m.from) a));
-    ahead = λ m a i x e. omega (arith, v.ahead m a i x e, h (Put (no m.from) a));
+    gave = told_more L D here came (λ m a. P (Put (no m.from) a)) (λ m a. Q (Put (no m.from) a)) v.gave (λ m a. h (Put (no m.from) a));
     behind = v.behind;
   }
 
@@ -253,8 +251,7 @@ module _ (L : List Leg) (out : ℕ → Bool) (key : Leg → ℕ) (home no wait :
 
       pub front_fired : (here : ℕ) (came : ℕ → ℕ) (G : Wire → ℕ) → Front D here came F P → Grew F w G → Front D here came G P
       front_fired here came G v g = record {
-        told = v.told;
-        ahead = v.ahead;
+        gave = v.gave;
         behind = λ l i. grew_bound F w G g (cross l) (D l) (v.behind l i) (λ e. (pends l i e).2);
       }
 
@@ -304,7 +301,7 @@ module _ (L : List Leg) (out : ℕ → Bool) (key : Leg → ℕ) (home no wait :
           × (entered F m.from ≤ sum_where L (to_at m.from) D) × (one_if m.from 1 + sum_where L (to_at m.from) D ≡ D m + one_if m.from here)
           × (one_if m.from here ≤ 1)
       chain m a i h = (
-        k.told m a i h,
+        k.gave.told m a i h,
         given (Put (no m.from) a),
         v.puts m a i h,
         given (begin m),
@@ -716,7 +713,7 @@ module _ (L : List Leg) (out : ℕ → Bool) (key : Leg → ℕ) (home no wait :
 
       gives : Gives L out D here came (λ m a. F (Put (no m.from) a)) (λ m a. P (Put (no m.from) a)) (λ a. F (Give a)) (λ a. P (Give a))
       gives = record {
-        told = λ m a i e h. k.told m a (i, e) h;
+        told = λ m a i e h. k.gave.told m a (i, e) h;
         handed = λ m a. given (Put (no m.from) a);
         low = λ m a i e h. omega (arith, chain m a (i, e) h);
         shown = v.gives;

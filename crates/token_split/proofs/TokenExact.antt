@@ -268,7 +268,7 @@ module _ (L : List Leg) (out : ℕ → Bool) (T : List ℕ → Type 0) (g : Link
             k,
             none,
             even (Give a),
-            sum_gap L (in_leg a) D (λ n. got d t (Put (no n.from) a)) (λ n b x. i.front.told n a (acts_with L out key home no wait one n a b o x) x) m j.0 h,
+            sum_gap L (in_leg a) D (λ n. got d t (Put (no n.from) a)) (λ n b x. i.front.gave.told n a (acts_with L out key home no wait one n a b o x) x) m j.0 h,
           ))
           | inr put ↦ elim (cases_lt (sent d t (Put (no m.from) a)) (got d t (begin m))) [
             | inl less ↦ serve_put t m a i j h less

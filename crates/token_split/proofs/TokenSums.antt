@@ -8,7 +8,7 @@ use Rattle.place_graph.specs.Chart.{Increase, sum_where}
 use Rattle.place_graph.proofs.Sums.{sum_plus, sum_none, one_same}
 use Rattle.net_laws.proofs.Woven.{Grew}
 use Rattle.plain_split.proofs.OneWaitSums.{one_at, when, sum_le, sum_gap, sum_some, sum_one}
-use Rattle.plain_split.proofs.OneWaitTraces.{place_one}
+use Rattle.plain_split.proofs.SharedTold.{place_one}
 
 when_low : (b : Bool) (m n : ℕ) → (b ≡ true → m ≤ n) → when b m ≤ when b n
 when_low true m n h = h refl

@@ -18,7 +18,8 @@ use Rattle.net_laws.proofs.Rows.{among_right, among_either}
 use Rattle.plain_split.proofs.OneWaitSums.{sum_le}
 use Rattle.plain_split.proofs.OneWaitWeb.{sum_of, MergeOn}
 use Rattle.plain_split.proofs.OneWaitCounts.{some_symbol}
-use Rattle.plain_split.proofs.OneWaitTraces.{among_map, map_among, sum_of_map, sum_of_some, place_one, done_one, times_one}
+use Rattle.plain_split.proofs.SharedTold.{done_one, told_taken, told_given}
+use Rattle.plain_split.proofs.OneWaitTraces.{among_map, map_among, sum_of_map, sum_of_some}
 use Rattle.token_split.specs.TokenChart.{Wire, Take, Burst, Return, Row, Cross, Call, Begin, Put, Exit, Give, Name, Env, Join, Meet, Calls, Gate, Spread, Returns, Entry, Shows, Links, same_wire, driver, receiver, cross_wire}
 use Rattle.token_split.proofs.TokenWeb.{MeetOn, Crosses, of_row, of_column, word, Rule, web, lawful}
 use Rattle.token_split.proofs.TokenRules.{gate_out, gate_in, gate_some, join_out, join_in, join_some, fork_out, fork_in, take_end, give_end, word_takes, word_gives}
@@ -586,36 +587,12 @@ module _ (L : List Leg) (out : ℕ → Bool) (T : List ℕ → Type 0) (g : Link
     pub fresh : (a : ℕ) (n : Grows L i.story a i.tale) → came a ≡ 0
     fresh a n = omega (arith, n.grown.within a, one.chart.few n.grown.leg a n.grown.among, one_same a a refl)
 
-    front_taken : (a : ℕ) (n : Grows L i.story a i.tale) (G Q : Wire → ℕ) → out a ≡ false → ((l : Leg) → Input l → G (cross_of l) ≤ D l) → ((w : Wire) → P w ≤ Q w)
-        → Front L out key home no wait (done n.next.past) n.next.here (λ b. times b n.next.came) G Q
-    front_taken a n G Q o low more = at n.grown.how
-      where
-        l : Leg
-        l = n.grown.leg
-
-        j : Input l
-        j = (n.grown.among, sym (one.chart.dirs l a n.grown.among n.grown.has) ∙ o)
-
-        at : ((n.next.past ≡ i.tale.past) × (n.next.here ≡ i.tale.here) × (n.next.came ≡ a ∷ i.tale.came))
-            ⊎ ((n.next.past ≡ n.grown.leg ∷ i.tale.past) × (n.next.here ≡ n.grown.leg.to) × (n.next.came ≡ []) × ((b : ℕ) → times b (symbols n.grown.leg.marks) ≡ times b (a ∷ i.tale.came)))
-            → Front L out key home no wait (done n.next.past) n.next.here (λ b. times b n.next.came) G Q
-        at (inl (p, h, c)) = record {
-          told = λ m b k x. omega (arith, i.front.told m b k x, more (Put (no m.from) b), ap (λ q. done q m) p);
-          ahead = λ m b k x e. absurd (apart L out key home no wait one m l k j (e ∙ h ∙ sym n.grown.from));
-          behind = λ k q. omega (arith, low k q, ap (λ q. done q k) p);
-        }
-        at (inr (p, h, c, all)) =
-            let told : (m : Leg) (b : ℕ) → Act m → Has m b → done n.next.past m ≤ Q (Put (no m.from) b) = λ m b k x. elim (done_one i.tale.past l m) [
-              | inl z ↦
-                  let same : m ≡ l = place_one L one.chart.increase m l k.0 j.0 z.0 in
-                  absurd (true≢false (sym k.1 ∙ ap is_act same ∙ j.1))
-              | inr z ↦ omega (arith, i.front.told m b k x, more (Put (no m.from) b), ap (λ q. done q m) p, z.1)
-            ] in
-            record {
-              told = told;
-              ahead = λ m b k x e. omega (arith, told m b k x, ap (times b) c);
-              behind = λ k q. omega (arith, low k q, ap (λ q. done q k) p);
-            }
+    -- a leg is completed no less often
+    done_more : (a : ℕ) (n : Grows L i.story a i.tale) (l : Leg) → D l ≤ done n.next.past l
+    done_more a n l = elim n.grown.how [
+      | inl (p, h, c) ↦ omega (arith, ap (λ q. done q l) p)
+      | inr (p, h, c, all) ↦ elim (done_one i.tale.past n.grown.leg l) [ inl z ↦ omega (arith, z.1, ap (λ q. done q l) p) | inr z ↦ omega (arith, z.1, ap (λ q. done q l) p) ]
+    ]
 
     send_take : (a : ℕ) → Allowed t (Take a) → Sends t (Take a)
     send_take a (o, r) =
@@ -631,76 +608,13 @@ module _ (L : List Leg) (out : ℕ → Bool) (T : List ℕ → Type 0) (g : Link
                 is = ap (word out) (longer_at t Env (Take a) u h Env refl) ∙ take_end out (t Env) a o ∙ ap (λ v. v ++ a ∷ []) i.is;
                 lines = lines_more L out key home no wait (sent net u) P (got net u)
                     (lines_fired L out key home no wait one D F P (Take a) tt (sent net u) i.lines (sent_grew Name Wire net fine t (Take a) u h)) (λ v. omega (arith, got_same Name Wire net fine t (Take a) u h v));
-                front = front_taken a n (sent net u) (got net u) o
-                    (front_fired L out key home no wait one D F P (Take a) tt here came (sent net u) i.front (sent_grew Name Wire net fine t (Take a) u h)).behind
-                    (λ v. omega (arith, got_same Name Wire net fine t (Take a) u h v));
+                front = record {
+                  gave = told_taken L out one.chart i.story i.tale a n (λ m b. P (Put (no m.from) b)) (λ m b. got net u (Put (no m.from) b)) i.front.gave
+                      (λ m b. omega (arith, got_same Name Wire net fine t (Take a) u h (Put (no m.from) b))) o;
+                  behind = λ k q. omega (arith, (front_fired L out key home no wait one D F P (Take a) tt here came (sent net u) i.front (sent_grew Name Wire net fine t (Take a) u h)).behind k q, done_more a n k);
+                };
               },
         )
-
-    front_given : (a : ℕ) (n : Grows L i.story a i.tale) (Q : Wire → ℕ) → Shown L out key home no wait one D here came F P st ties f i.lines i.front a → ((w : Wire) → P w ≤ Q w)
-        → Front L out key home no wait (done n.next.past) n.next.here (λ b. times b n.next.came) F Q
-    front_given a n Q s more = at n.grown.how
-      where
-        m : Leg
-        m = s.act
-
-        same : n.grown.leg ≡ m
-        same = one.chart.lone m n.grown.leg s.acts.0 n.grown.among s.acts.1 (n.grown.from ∙ sym s.from)
-
-        put_more : (b : ℕ) → Has m b → ((b ≡ a) × (times b (a ∷ i.tale.came) ≡ suc (came b))) ⊎ ((b ≡ a → ⊥) × (times b (a ∷ i.tale.came) ≡ came b)) → D m + times b (a ∷ i.tale.came) ≤ P (Put (no m.from) b)
-        put_more b x (inl (e, z)) = omega (arith, s.more, s.none, ap (λ y. P (Put (no m.from) y)) e, z, ap came e)
-        put_more b x (inr (e, z)) = omega (arith, i.front.ahead m b s.acts x s.from, z)
-
-        -- an input is completed no more often
-        low : (k : Leg) → Input k → done (n.grown.leg ∷ i.tale.past) k ≡ D k
-        low k q = elim (done_one i.tale.past n.grown.leg k) [
-          | inl z ↦
-              let e : k ≡ n.grown.leg = place_one L one.chart.increase k n.grown.leg q.0 n.grown.among z.0 in
-              absurd (true≢false (sym s.acts.1 ∙ ap is_act (sym (e ∙ same)) ∙ q.1))
-          | inr z ↦ z.1
-        ]
-
-        at : ((n.next.past ≡ i.tale.past) × (n.next.here ≡ i.tale.here) × (n.next.came ≡ a ∷ i.tale.came))
-            ⊎ ((n.next.past ≡ n.grown.leg ∷ i.tale.past) × (n.next.here ≡ n.grown.leg.to) × (n.next.came ≡ []) × ((b : ℕ) → times b (symbols n.grown.leg.marks) ≡ times b (a ∷ i.tale.came)))
-            → Front L out key home no wait (done n.next.past) n.next.here (λ b. times b n.next.came) F Q
-        at (inl (p, h, c)) = record {
-          told = λ k b j x. omega (arith, i.front.told k b j x, more (Put (no k.from) b), ap (λ q. done q k) p);
-          ahead = λ k b j x e.
-              let z : k ≡ m = one.chart.lone m k s.acts.0 j.0 s.acts.1 (e ∙ h ∙ sym s.from) in
-              omega (
-                arith,
-                put_more b (subst (λ y. Has y b) z x) (times_one i.tale.came a b),
-                more (Put (no k.from) b),
-                ap (λ q. done q k) p,
-                ap D z,
-                ap (λ (y : Leg). P (Put (no y.from) b)) z,
-                ap (times b) c,
-              );
-          behind = λ k q. omega (arith, i.front.behind k q, ap (λ q. done q k) p);
-        }
-        at (inr (p, h, c, all)) =
-            let told : (k : Leg) (b : ℕ) → Act k → Has k b → done n.next.past k ≤ Q (Put (no k.from) b) = λ k b j x. elim (done_one i.tale.past n.grown.leg k) [
-              | inl z ↦
-                  let e : k ≡ n.grown.leg = place_one L one.chart.increase k n.grown.leg j.0 n.grown.among z.0 in
-                  let y : k ≡ m = e ∙ same in
-                  omega (
-                    arith,
-                    put_more b (subst (λ y. Has y b) y x) (times_one i.tale.came a b),
-                    all b,
-                    times_from_in b (symbols n.grown.leg.marks) (subst (λ y. Has y b) e x),
-                    z.1,
-                    more (Put (no k.from) b),
-                    ap (λ q. done q k) p,
-                    ap D y,
-                    ap (λ (y : Leg). P (Put (no y.from) b)) y,
-                  )
-              | inr z ↦ omega (arith, i.front.told k b j x, more (Put (no k.from) b), ap (λ q. done q k) p, z.1)
-            ] in
-            record {
-              told = told;
-              ahead = λ k b j x e. omega (arith, told k b j x, ap (times b) c);
-              behind = λ k q. omega (arith, i.front.behind k q, ap (λ q. done q k) p, low k q);
-            }
 
     land_give : (m : Leg) (a : ℕ) → Act m → Has m a → F (Give a) ≡ suc (P (Give a)) → Lands t (Give a) × ((u : Name → List Wire) → Longer Name Wire t Env (Give a) u → Held u)
     land_give m a j h x =
@@ -715,8 +629,11 @@ module _ (L : List Leg) (out : ℕ → Bool) (T : List ℕ → Type 0) (g : Link
             is = ap (word out) (longer_at t Env (Give a) u l Env refl) ∙ give_end out (t Env) a o ∙ ap (λ v. v ++ a ∷ []) i.is;
             lines = subst (λ F. Lines L out key home no wait F (got net u)) (sym (fun_ext (sent_same Name Wire net fine t (Give a) u l)))
                 (lines_more L out key home no wait F P (got net u) i.lines (grew_le P (Give a) (got net u) (got_grew Name Wire net fine t (Give a) u l)));
-            front = subst (λ F. Front L out key home no wait (done n.next.past) n.next.here (λ b. times b n.next.came) F (got net u)) (sym (fun_ext (sent_same Name Wire net fine t (Give a) u l)))
-                (front_given a n (got net u) s (grew_le P (Give a) (got net u) (got_grew Name Wire net fine t (Give a) u l)));
+            front = record {
+              gave = told_given L out one.chart i.story i.tale a n (λ m b. P (Put (no m.from) b)) (λ m b. got net u (Put (no m.from) b)) i.front.gave
+                  (λ m b. grew_le P (Give a) (got net u) (got_grew Name Wire net fine t (Give a) u l) (Put (no m.from) b)) s;
+              behind = λ k q. omega (arith, i.front.behind k q, done_more a n k, sent_same Name Wire net fine t (Give a) u l (cross_of k));
+            };
           },
         )
 
@@ -810,8 +727,10 @@ module _ (L : List Leg) (out : ℕ → Bool) (T : List ℕ → Type 0) (g : Link
       gives = λ a o. omega arith;
     };
     front = record {
-      told = λ m a j x. omega (arith, ap (λ p. done p m) plays.first_past);
-      ahead = λ m a j x e. omega (arith, ap (λ p. done p m) plays.first_past, ap (times a) plays.first_came);
+      gave = record {
+        told = λ m a j x. omega (arith, ap (λ p. done p m) plays.first_past);
+        ahead = λ m a j x e. omega (arith, ap (λ p. done p m) plays.first_past, ap (times a) plays.first_came);
+      };
       behind = λ l j. omega arith;
     };
   }

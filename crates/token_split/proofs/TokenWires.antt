@@ -1,11 +1,10 @@
 -- How many wires the network of a process by a token has, and how wide its groups are.
-use Rattle.std.proofs.Common.{◌≡◌, inl, inr, ℕ, suc, ◌+◌, ◌<◌, ◌≤◌, Bool, true, false, true≢false, nat_eq, cond, filter, List, [], ◌∷◌, ◌++◌, length, map, refl, sym, ap, ◌∙◌, arith, if◌then◌else◌, length-append, eqb-true}
+use Rattle.std.proofs.Common.{◌≡◌, inl, inr, ℕ, ◌+◌, ◌<◌, ◌≤◌, Bool, true, false, true≢false, nat_eq, cond, filter, List, [], ◌∷◌, ◌++◌, length, map, refl, sym, ap, ◌∙◌, arith, length-append, eqb-true}
 use Rattle.std.specs.List.{range_with_len}
 use Rattle.std.proofs.lemmas.Bool.{cases_Bool, cases_eq}
 use Rattle.basic_kinds.specs.Totals.{total}
 use Rattle.place_graph.specs.declared.leg.Leg.{Leg}
 use Rattle.place_graph.specs.declared.wait_graph.Cross.{Cross as Crossing}
-use Rattle.place_graph.specs.Graph.{is_before, put, in_order}
 use Rattle.place_graph.specs.Tale.{one_if}
 use Rattle.place_graph.specs.Chart.{sum_where, in_leg}
 use Rattle.place_graph.proofs.Sums.{one_same}
