@@ -4,6 +4,7 @@ use Rattle.std.proofs.Common.{◌≡◌, ◌≢◌, ℕ, ◌+◌, ◌<◌, ◌�
 use Rattle.std.specs.List.{filter, range_with_len, AllByRecursion}
 use Rattle.std.proofs.lemmas.Bool.{cases_eq}
 use Rattle.std.proofs.lemmas.List.{get_or-set_same, get_or-set_other}
+use Rattle.std.proofs.lemmas.List.FromFn.{length-range_with_len}
 use Rattle.std.proofs.lemmas.List.Elements.{filter-append}
 use Rattle.basic_kinds.specs.Sorts.{how_many, how_many_below}
 use Rattle.shape_parts.specs.Keys.{key_at, rank}
@@ -50,3 +51,18 @@ bucket_more keys many bs n b long low is h k inside = elim (cases_eq k (key_at k
       ∙ sym (filter_more (λ m. nat_eq (key_at keys m) k) n ∙ ap (λ (t : Bool). filter (λ m. nat_eq (key_at keys m) k) (range_with_len 0 n) ++ (if t then n ∷ [] else [])) (ne_eqb (key_at keys n) k (λ e. other (sym e)))
       ∙ append-nil (filter (λ m. nat_eq (key_at keys m) k) (range_with_len 0 n)))
 ]
+
+-- one number more is counted
+pub count_more : (f : ℕ → Bool) (n : ℕ) → how_many_below (n + 1) f ≡ (if f n then how_many_below n f + 1 else how_many_below n f)
+count_more f n = ap (how_many f) (range_more n) ∙ both (range_with_len 0 n) ∙ by (f n)
+  where
+    both : (xs : List ℕ) → how_many f (xs ++ n ∷ []) ≡ how_many f xs + (if f n then 1 else 0)
+    both [] = let e : (if f n then 1 else 0) + 0 ≡ 0 + (if f n then 1 else 0) = omega arith in e
+    both (x ∷ xs) = omega (arith, both xs)
+
+    by : (b : Bool) → how_many f (range_with_len 0 n) + (if b then 1 else 0) ≡ (if b then how_many_below n f + 1 else how_many_below n f)
+    by true = refl
+    by false = omega arith
+
+pub count_low : (f : ℕ → Bool) (n : ℕ) → how_many_below n f ≤ n
+count_low f n = omega (arith, how_many_low f (range_with_len 0 n), length-range_with_len 0 n)

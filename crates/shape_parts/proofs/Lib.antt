@@ -1,2 +1,6 @@
+mod Chosen
+mod Cuts
 mod Filled
+mod Keyed
+mod Labelled
 mod Links

@@ -53,15 +53,15 @@ leads_past f up i low inside l = (leads_set f up i (get_or up (get_or up i 0) 0)
     end : get_or up (get_or up i 0) 0 ≡ i → f i ≡ i
     end e = l.ends i inside (omega (arith, low i inside, low (get_or up i 0) next, e))
 
-merged_in : (f : ℕ → ℕ) (a b v : ℕ) → (f v ≡ f a) ⊎ (f v ≡ f b) → merged f a b v ≡ lesser (f a) (f b)
+pub merged_in : (f : ℕ → ℕ) (a b v : ℕ) → (f v ≡ f a) ⊎ (f v ≡ f b) → merged f a b v ≡ lesser (f a) (f b)
 merged_in f a b v (inl h) = cond-true (nat_eq (f v) (f a) || nat_eq (f v) (f b)) (lesser (f a) (f b)) (f v) (or_left (nat_eq (f v) (f a)) (nat_eq (f v) (f b)) (eq-eqb (f v) (f a) h))
 merged_in f a b v (inr h) = cond-true (nat_eq (f v) (f a) || nat_eq (f v) (f b)) (lesser (f a) (f b)) (f v) (or_right (nat_eq (f v) (f a)) (nat_eq (f v) (f b)) (eq-eqb (f v) (f b) h))
 
-merged_out : (f : ℕ → ℕ) (a b v : ℕ) → f v ≢ f a → f v ≢ f b → merged f a b v ≡ f v
+pub merged_out : (f : ℕ → ℕ) (a b v : ℕ) → f v ≢ f a → f v ≢ f b → merged f a b v ≡ f v
 merged_out f a b v h k =
     cond-false (nat_eq (f v) (f a) || nat_eq (f v) (f b)) (lesser (f a) (f b)) (f v) (or_from (nat_eq (f v) (f a)) (nat_eq (f v) (f b)) (ne_eqb (f v) (f a) h) (ne_eqb (f v) (f b) k))
 
-merged_same : (f : ℕ → ℕ) (a b v w : ℕ) → f v ≡ f w → merged f a b v ≡ merged f a b w
+pub merged_same : (f : ℕ → ℕ) (a b v w : ℕ) → f v ≡ f w → merged f a b v ≡ merged f a b w
 merged_same f a b v w e = ap (λ (k : ℕ). if nat_eq k (f a) || nat_eq k (f b) then lesser (f a) (f b) else k) e
 
 -- of the two ends that the lines a and b lead to, the greater is linked under the lesser

@@ -5,7 +5,12 @@
 #![tactic(auto)]
 
 mod by_key;
+mod cut;
+mod keys;
+mod marks;
 mod union_find;
 
 pub use by_key::Buckets;
+pub use cut::{ShapePart, parts};
+pub use keys::ShapeKeys;
 pub use union_find::labels;
