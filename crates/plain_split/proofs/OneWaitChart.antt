@@ -20,7 +20,7 @@ use Rattle.place_graph.specs.Tale.{Tale}
 use Rattle.place_graph.specs.Chart.{Has, Plays, Grows}
 use Rattle.net_laws.specs.Charts.{Chart, charted}
 use Rattle.net_laws.specs.Implementing.{Implements}
-use Rattle.net_laws.proofs.Webs.{Web}
+use Rattle.net_laws.proofs.Webs.{Web, Decides}
 use Rattle.net_laws.proofs.Webs as webs
 use Rattle.net_laws.proofs.Paths.{Path}
 use Rattle.net_laws.proofs.Among.{Among, Distinct, at_among, all_among, among_at}
@@ -60,11 +60,11 @@ shown_some : (g : Links) (xs : List ℕ) → (many xs || is_direct g xs) ≡ tru
 shown_some g [] h = absurd (true≢false (sym h))
 shown_some g (x ∷ xs) h = (x, inl refl)
 
-some_given : (xs : List ℕ) (x : ℕ) → Among x xs → is_some xs ≡ true
+pub some_given : (xs : List ℕ) (x : ℕ) → Among x xs → is_some xs ≡ true
 some_given [] x a = absurd a
 some_given (y ∷ xs) x a = refl
 
-given_some : (xs : List ℕ) → is_some xs ≡ true → (x : ℕ) × Among x xs
+pub given_some : (xs : List ℕ) → is_some xs ≡ true → (x : ℕ) × Among x xs
 given_some [] h = absurd (true≢false (sym h))
 given_some (y ∷ xs) h = (y, inl refl)
 
@@ -86,11 +86,11 @@ is_called : (bs : List ℕ) (n b : ℕ) → Among b bs → Among (Call n) (calle
 is_called [] n b a = absurd a
 is_called (x ∷ bs) n b a = inl refl
 
-as_long : {A B : Type 0} (f : A → B) (xs : List A) → length (map f xs) ≡ length xs
+pub as_long : {A B : Type 0} (f : A → B) (xs : List A) → length (map f xs) ≡ length xs
 as_long f [] = refl
 as_long f (x ∷ xs) = ap suc (as_long f xs)
 
-map_id : (xs : List ℕ) → map (λ i. i) xs ≡ xs
+pub map_id : (xs : List ℕ) → map (λ i. i) xs ≡ xs
 map_id [] = refl
 map_id (x ∷ xs) = ap (λ ys. x ∷ ys) (map_id xs)
 
@@ -101,17 +101,17 @@ unfolding total
 total_first zero u = omega arith
 total_first (suc k) u = omega (arith, total_first k u)
 
-total_list : (e : Wire → ℕ) (b : Wire) (xs ys : List Wire) → total (length xs) (λ q. e (get_or (xs ++ ys) q b)) ≡ sum_of e xs
+total_list : {W : Type 0} (e : W → ℕ) (b : W) (xs ys : List W) → total (length xs) (λ q. e (get_or (xs ++ ys) q b)) ≡ sum_of e xs
 unfolding total
 total_list e b [] ys = refl
 total_list e b (x ∷ xs) ys = total_first (length xs) (λ q. e (get_or (x ∷ (xs ++ ys)) q b)) ∙ omega (arith, total_list e b xs ys)
 
 -- a MERGE by its wires
-module _ (ins : List Wire) (o b : Wire) (once : Distinct (ins ++ o ∷ [])) (away : Among b (ins ++ o ∷ []) → ⊥) where
+module _ {W : Type 0} (same : W → W → Bool) (decides : Decides same) (ins : List W) (o b : W) (once : Distinct (ins ++ o ∷ [])) (away : Among b (ins ++ o ∷ []) → ⊥) where
   last_is : get_or (ins ++ o ∷ []) (length ins) b ≡ o
   last_is = get_or-append_right ins (o ∷ []) (length ins) (length ins) b refl (omega arith) ∙ ap (λ k. get_or (o ∷ []) k b) (let z : 0 ≡ length ins - length ins = omega arith in sym z)
 
-  merge_on : (e : Wire → ℕ) (w : Wire) → KindOn (kind.Merge (length ins)) (ins ++ o ∷ []) b e w ↔ MergeOn ins o e w
+  merge_on : (e : W → ℕ) (w : W) → KindOn (kind.Merge (length ins)) (ins ++ o ∷ []) b e w ↔ MergeOn ins o e w
   merge_on e w = (there, back)
     where
       sum : total (length ins) (λ q. e (get_or (ins ++ o ∷ []) q b)) ≡ sum_of e ins
@@ -131,21 +131,21 @@ module _ (ins : List Wire) (o b : Wire) (once : Distinct (ins ++ o ∷ [])) (awa
           (p, omega (arith, length-append ins (o ∷ [])), sym (get_or_append_left ins (o ∷ []) b p low ∙ is), inl (low, sum ∙ y ∙ sym end))
       back (inr (x, y)) = (length ins, omega (arith, length-append ins (o ∷ [])), x ∙ sym last_is, inr (refl, omega (arith, y, sum, end)))
 
-  pub merge_may : 2 ≤ length ins → (t : List ℕ) → May (Basic (kind.Merge (length ins))) t ↔ Follows (λ v w. MergeOn ins o (tally same_wire naught v) w) [] (map (λ p. get_or (ins ++ o ∷ []) p b) t)
+  pub merge_may : 2 ≤ length ins → (t : List ℕ) → May (Basic (kind.Merge (length ins))) t ↔ Follows (λ v w. MergeOn ins o (tally same naught v) w) [] (map (λ p. get_or (ins ++ o ∷ []) p b) t)
   merge_may wide t =
-      let both = kind_spec same_wire wires_decide (ins ++ o ∷ []) once b away (kind.Merge (length ins)) wide (length-append ins (o ∷ [])) t in (
-        (λ h. follows_by (λ v w. KindOn (kind.Merge (length ins)) (ins ++ o ∷ []) b (tally same_wire naught v) w) (λ v w. MergeOn ins o (tally same_wire naught v) w)
-            (λ v w. (merge_on (tally same_wire naught v) w).0) [] (map (λ p. get_or (ins ++ o ∷ []) p b) t) (both.0 h)),
-        (λ h. both.1 (follows_by (λ v w. MergeOn ins o (tally same_wire naught v) w) (λ v w. KindOn (kind.Merge (length ins)) (ins ++ o ∷ []) b (tally same_wire naught v) w)
-            (λ v w. (merge_on (tally same_wire naught v) w).1) [] (map (λ p. get_or (ins ++ o ∷ []) p b) t) h)),
+      let both = kind_spec same decides (ins ++ o ∷ []) once b away (kind.Merge (length ins)) wide (length-append ins (o ∷ [])) t in (
+        (λ h. follows_by (λ v w. KindOn (kind.Merge (length ins)) (ins ++ o ∷ []) b (tally same naught v) w) (λ v w. MergeOn ins o (tally same naught v) w)
+            (λ v w. (merge_on (tally same naught v) w).0) [] (map (λ p. get_or (ins ++ o ∷ []) p b) t) (both.0 h)),
+        (λ h. both.1 (follows_by (λ v w. MergeOn ins o (tally same naught v) w) (λ v w. KindOn (kind.Merge (length ins)) (ins ++ o ∷ []) b (tally same naught v) w)
+            (λ v w. (merge_on (tally same naught v) w).1) [] (map (λ p. get_or (ins ++ o ∷ []) p b) t) h)),
       )
 
 -- the rule of rounds of a C and of a FORK
-join_traces : (n : ℕ) → 0 < n → (t : List ℕ) → May (Basic (kind.C n)) t ↔ Rounds n 1 t
+pub join_traces : (n : ℕ) → 0 < n → (t : List ℕ) → May (Basic (kind.C n)) t ↔ Rounds n 1 t
 unfolding May
 join_traces n some t = rounds_ports n 1 some (omega arith) t
 
-fork_traces : (m : ℕ) → 0 < m → (t : List ℕ) → May (Basic (kind.Fork m)) t ↔ Rounds 1 m t
+pub fork_traces : (m : ℕ) → 0 < m → (t : List ℕ) → May (Basic (kind.Fork m)) t ↔ Rounds 1 m t
 unfolding May
 fork_traces m some t = rounds_ports 1 m (omega arith) some t
 
@@ -190,7 +190,7 @@ show_formed [] low = record { wide = tt; few = omega arith }
 show_formed (n ∷ []) low = record { wide = tt; few = omega arith }
 show_formed (n ∷ m ∷ ns) low = record { wide = omega arith; few = low }
 
-joined_row : {N W : Type 0} (f h : W → N) (n : N) (out : ℕ → Bool) (u : ℕ → W) (a k : ℕ) → ((i : ℕ) → a ≤ i → i < a + k → (out i ≡ true → f (u i) ≡ n) × (out i ≡ false → h (u i) ≡ n))
+pub joined_row : {N W : Type 0} (f h : W → N) (n : N) (out : ℕ → Bool) (u : ℕ → W) (a k : ℕ) → ((i : ℕ) → a ≤ i → i < a + k → (out i ≡ true → f (u i) ≡ n) × (out i ≡ false → h (u i) ≡ n))
     → Joined f h n (map out (range_with_len a k)) (map u (range_with_len a k))
 joined_row f h n out u a zero all = tt
 joined_row f h n out u a (suc k) all = at (out a) (all a (omega arith) (omega arith)) (joined_row f h n out u (a + 1) k (λ i x y. all i (omega arith) (omega arith)))
@@ -247,7 +247,7 @@ show_may (n ∷ []) a x z i once away t =
 show_may (n ∷ m ∷ ns) a x z i once away t =
     let wide : length (map (λ n. Put n a) (n ∷ m ∷ ns)) ≡ length (n ∷ m ∷ ns) = as_long (λ n. Put n a) (n ∷ m ∷ ns) in
     subst (λ k. May (Basic (kind.Merge k)) t ↔ Follows (λ v w. MergeOn (map (λ n. Put n a) (n ∷ m ∷ ns)) (Give a) (tally same_wire naught v) w) [] (map (λ p. get_or (map (λ n. Put n a) (n ∷ m ∷ ns) ++ Give a ∷ []) p z) t)) wide
-    (merge_may (map (λ n. Put n a) (n ∷ m ∷ ns)) (Give a) z once away (omega (arith, wide)) t)
+    (merge_may same_wire wires_decide (map (λ n. Put n a) (n ∷ m ∷ ns)) (Give a) z once away (omega (arith, wide)) t)
 
 module _ (L : List Leg) (out : ℕ → Bool) (T : List ℕ → Type 0) (g : Links) (key : Leg → ℕ) (no : ℕ → ℕ) (one : IsOneWait L out) (plays : Plays L T) (drawn : Drawn L out g key no)
     (listed : Listed L out g key no) (narrow : IsNarrow g) (s : NodeSpec) (formed : IsFormed s) (directions : outs_of s ≡ map out (range_with_len 0 g.names)) (traces : (t : List ℕ) → May s t ↔ T t)
@@ -628,7 +628,7 @@ module _ (L : List Leg) (out : ℕ → Bool) (T : List ℕ → Type 0) (g : Link
   may_at (Calls n) h c t =
       let long : length (map (λ b. Burst b n) (g.entries n)) ≡ length (g.entries n) = as_long (λ b. Burst b n) (g.entries n) in
       subst (λ k. May (Basic (kind.Merge k)) t ↔ webs.May d (Calls n) (map (λ p. get_or (ports g (Calls n)) p nothing) t)) long
-      (merge_may (map (λ b. Burst b n) (g.entries n)) (Call n) nothing (ports_once (Calls n) h c) (ports_away (Calls n) h c) (omega (arith, long, many_two (g.entries n) c)) t)
+      (merge_may same_wire wires_decide (map (λ b. Burst b n) (g.entries n)) (Call n) nothing (ports_once (Calls n) h c) (ports_away (Calls n) h c) (omega (arith, long, many_two (g.entries n) c)) t)
   may_at (Gate n) h c t =
       let both = kind_spec same_wire wires_decide (ports g (Gate n)) (ports_once (Gate n) h c) nothing (ports_away (Gate n) h c) (gate_kind (g.entries n)) (gate_wide (g.entries n)) (gate_long (g.entries n) n) t in (
         (λ z. follows_by (λ v w. KindOn (gate_kind (g.entries n)) (ports g (Gate n)) nothing (tally same_wire naught v) w) (λ v w. GateOn (g.entries n) (g.begins n) n (tally same_wire naught v) w)

@@ -127,10 +127,10 @@ module _ (out : ℕ → Bool) (p : Proc) (proc : IsProc p) (body : IsTrue (is_so
   g = links (graph_of p) names
 
   pub is_drawn : Drawn (legs p) out g (burst_number (legs p)) (λ x. index_of x (act_points (legs p)))
-  is_drawn = drawn (legs p) out one sets names (known_of p names known) (leg_comes p proc)
+  is_drawn = drawn (legs p) out one.chart sets names one (known_of p names known) (leg_comes p proc)
 
   pub is_listed : Listed (legs p) out g (burst_number (legs p)) (λ x. index_of x (act_points (legs p)))
-  is_listed = listed (legs p) out one sets names (known_of p names known) (leg_comes p proc)
+  is_listed = listed (legs p) out one.chart sets names one (known_of p names known) (leg_comes p proc)
 
   abbrev no : ℕ → ℕ
   no x = index_of x (act_points (legs p))

@@ -45,41 +45,41 @@ or_false false b h = (refl, h)
 
 -- ---- nodes of width 1
 
-record Through (R : (Wire → ℕ) → Wire → Type 0) (x y : Wire) : Type 0 where
-  takes : (c : Wire → ℕ) → R c x → c x ≡ c y
-  gives : (c : Wire → ℕ) → c y < c x → R c y
-  passed : (c : Wire → ℕ) → R c y → c y < c x
+pub record Through {W : Type 0} (R : (W → ℕ) → W → Type 0) (x y : W) : Type 0 where
+  pub takes : (c : W → ℕ) → R c x → c x ≡ c y
+  pub gives : (c : W → ℕ) → c y < c x → R c y
+  pub passed : (c : W → ℕ) → R c y → c y < c x
 
-rounds_one : (x y : Wire) → (x ≡ y → ⊥) → Through (RoundsOn (x ∷ []) (y ∷ [])) x y
-rounds_one x y apart = record { takes = takes; gives = λ c less. inr (inl refl, (less, tt)); passed = passed }
+pub rounds_one : {W : Type 0} (x y : W) → (x ≡ y → ⊥) → Through (RoundsOn (x ∷ []) (y ∷ [])) x y
+rounds_one {W = W} x y apart = record { takes = takes; gives = λ c less. inr (inl refl, (less, tt)); passed = passed }
   where
-    takes : (c : Wire → ℕ) → RoundsOn (x ∷ []) (y ∷ []) c x → c x ≡ c y
+    takes : (c : W → ℕ) → RoundsOn (x ∷ []) (y ∷ []) c x → c x ≡ c y
     takes c (inl (a, all)) = all.0
     takes c (inr (inl e, all)) = absurd (apart e)
     takes c (inr (inr e, all)) = absurd e
 
-    passed : (c : Wire → ℕ) → RoundsOn (x ∷ []) (y ∷ []) c y → c y < c x
+    passed : (c : W → ℕ) → RoundsOn (x ∷ []) (y ∷ []) c y → c y < c x
     passed c (inl (inl e, all)) = absurd (apart (sym e))
     passed c (inl (inr e, all)) = absurd e
     passed c (inr (a, all)) = all.0
 
-rounds_through : (ins outs : List Wire) (x y : Wire) → ins ≡ x ∷ [] → outs ≡ y ∷ [] → (x ≡ y → ⊥) → Through (RoundsOn ins outs) x y
+pub rounds_through : {W : Type 0} (ins outs : List W) (x y : W) → ins ≡ x ∷ [] → outs ≡ y ∷ [] → (x ≡ y → ⊥) → Through (RoundsOn ins outs) x y
 rounds_through ins outs x y e f apart =
     subst (λ i. Through (RoundsOn i outs) x y) (sym e) (subst (λ o. Through (RoundsOn (x ∷ []) o) x y) (sym f) (rounds_one x y apart))
 
-merge_one : (x y : Wire) → (x ≡ y → ⊥) → Through (MergeOn (x ∷ []) y) x y
-merge_one x y apart = record { takes = takes; gives = λ c less. inr (refl, omega (arith, less)); passed = passed }
+merge_one : {W : Type 0} (x y : W) → (x ≡ y → ⊥) → Through (MergeOn (x ∷ []) y) x y
+merge_one {W = W} x y apart = record { takes = takes; gives = λ c less. inr (refl, omega (arith, less)); passed = passed }
   where
-    takes : (c : Wire → ℕ) → MergeOn (x ∷ []) y c x → c x ≡ c y
+    takes : (c : W → ℕ) → MergeOn (x ∷ []) y c x → c x ≡ c y
     takes c (inl (a, e)) = omega (arith, e)
     takes c (inr (e, less)) = absurd (apart e)
 
-    passed : (c : Wire → ℕ) → MergeOn (x ∷ []) y c y → c y < c x
+    passed : (c : W → ℕ) → MergeOn (x ∷ []) y c y → c y < c x
     passed c (inl (inl e, z)) = absurd (apart (sym e))
     passed c (inl (inr e, z)) = absurd e
     passed c (inr (e, less)) = omega (arith, less)
 
-merge_through : (ins : List Wire) (x y : Wire) → ins ≡ x ∷ [] → (x ≡ y → ⊥) → Through (MergeOn ins y) x y
+pub merge_through : {W : Type 0} (ins : List W) (x y : W) → ins ≡ x ∷ [] → (x ≡ y → ⊥) → Through (MergeOn ins y) x y
 merge_through ins x y e apart = subst (λ i. Through (MergeOn i y) x y) (sym e) (merge_one x y apart)
 
 gate_through : (bs : List ℕ) (b : Bool) (n x : ℕ) → Among x bs → b ≡ false → Through (GateOn bs b n) (Call n) (Begin n)

@@ -1,0 +1,11 @@
+pub mod TokenWeb
+pub mod TokenRules
+pub mod TokenSums
+pub mod TokenCounts
+pub mod TokenTraces
+pub mod TokenExact
+pub mod TokenRoutes
+pub mod TokenMeet
+pub mod TokenParts
+pub mod TokenCharted
+pub mod TokenExamples

@@ -1,0 +1,3 @@
+pub mod PartKind
+pub mod TokenChart
+pub mod TokenNet
