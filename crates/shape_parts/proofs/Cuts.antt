@@ -9,6 +9,7 @@ use Rattle.basic_kinds.specs.Sorts.{how_many, how_many_below}
 use Rattle.basic_kinds.specs.ShapeParts.{label, has_row, has_column, part_at, part_names, part_rows, part_columns, local_part, local_crossing}
 use Rattle.basic_kinds.proofs.Crossings.{any_at}
 use Rattle.shape_parts.specs.declared.cut.Cut.{Cut}
+use Rattle.shape_parts.specs.declared.cut.ShapePart.{ShapePart}
 use Rattle.shape_parts.specs.Keys.{key_at, with_key, rank}
 use Rattle.shape_parts.specs.Cut.{part_places, part_of}
 use Rattle.shape_parts.specs.Mirror.Cuts.{is_name, number_of, many_parts, row_key, column_key, crossing_key, row_keys, column_keys, crossing_keys, local_by, part_by, IsCut}
@@ -35,6 +36,10 @@ ranked f n k test x h low e =
     how_many_same (λ m. nat_eq (key_at (map f (range_with_len 0 n)) m) (key_at (map f (range_with_len 0 n)) x)) test 0 x
     (λ y above below. ap (λ (m : ℕ). nat_eq m (key_at (map f (range_with_len 0 n)) x)) (get_or-map-range_with_len f 0 n y y 0 (omega arith) (omega arith))
     ∙ ap (λ (m : ℕ). nat_eq (f y) m) (get_or-map-range_with_len f 0 n x x 0 low (omega arith) ∙ e) ∙ h y (omega arith))
+
+same_part : {n m : ℕ} {rs ts cs ds ps qs : List ℕ} {xs ys : List (ℕ × ℕ)} → n ≡ m → rs ≡ ts → cs ≡ ds → ps ≡ qs → xs ≡ ys
+    → ◌≡◌ {A = ShapePart} (record { name = n; rows = rs; columns = cs; places = ps; cross = xs }) (record { name = m; rows = ts; columns = ds; places = qs; cross = ys })
+same_part a b c d e = λ i. record { name = a i; rows = b i; columns = c i; places = d i; cross = e i }
 
 module _ (rows cols : ℕ) (cross : List (ℕ × ℕ)) (within : IsTrue (list_all (is_within rows cols) cross)) where
   abbrev names : List ℕ
@@ -172,7 +177,7 @@ module _ (rows cols : ℕ) (cross : List (ℕ × ℕ)) (within : IsTrue (list_al
         both (n ∷ ns) = ap (λ ps. local_crossing part (get_or cross n (0, 0)) ∷ ps) (both ns)
 
     pub part_is : part_by t cross k ≡ part_of rows cols cross (name_at k)
-    part_is = rw (is.of_names, rows_is, columns_is, places_is, cross_is) refl
+    part_is = same_part (ap (λ (ns : List ℕ). get_or ns k 0) is.of_names) rows_is columns_is places_is (ap (map (local_by t cross)) places_is ∙ cross_is)
 
     pub places_low : AllByRecursion (λ n. n < length cross) (get_or t.crossings.numbers.items k [])
     places_low = rw places_is (filter_below (λ n. nat_eq (label rows cross (get_or cross n (0, 0)).0) (name_at k)) 0 (length cross) (length cross) (omega arith))

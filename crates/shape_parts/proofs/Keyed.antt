@@ -213,11 +213,14 @@ pub counted_by : {ks : List ℕ} {a ms : List Bool} → ks ≡ map (λ i. how_ma
     → ks ≡ map (λ i. how_many_below i (λ j. get_or ms j false)) (range_with_len 0 (length ms + 1))
 counted_by h p = h ∙ (λ t. map (λ i. how_many_below i (λ j. get_or (p t) j false)) (range_with_len 0 (length (p t) + 1)))
 
-pub all_keys : {many parts : ℕ} {ks keys : List ℕ} → many ≡ parts → ks ≡ keys → AllByRecursion (λ k. k < parts + 1) keys → AllByRecursion (λ k. k < many + 1) ks
-all_keys {many = many} {keys = keys} e p h = subst (AllByRecursion (λ k. k < many + 1)) (sym p) (subst (λ (n : ℕ). AllByRecursion (λ k. k < n + 1) keys) (sym e) h)
+all_low : (n m : ℕ) (ks : List ℕ) → m ≡ n → AllByRecursion (λ k. k < n) ks → AllByRecursion (λ k. k < m) ks
+all_low n m ks e h = subst (λ (n : ℕ). AllByRecursion (λ k. k < n) ks) (sym e) h
 
-pub keyed_numbers : {many parts : ℕ} {ks keys : List ℕ} {bs : List (List ℕ)} → many ≡ parts → ks ≡ keys → bs ≡ map (with_key ks) (range_with_len 0 (many + 1)) → bs ≡ map (with_key keys) (range_with_len 0 (parts + 1))
-keyed_numbers e p h = h ∙ (λ i. map (with_key (p i)) (range_with_len 0 (e i + 1)))
+pub all_keys : (parts : ℕ) {many : ℕ} {ks keys : List ℕ} → many ≡ parts + 1 → ks ≡ keys → AllByRecursion (λ k. k < parts + 1) keys → AllByRecursion (λ k. k < many) ks
+all_keys parts {many = many} {ks = ks} e p h = all_low (parts + 1) many ks e (subst (AllByRecursion (λ k. k < parts + 1)) (sym p) h)
+
+pub keyed_numbers : (parts : ℕ) {many : ℕ} {ks keys : List ℕ} {bs : List (List ℕ)} → many ≡ parts + 1 → ks ≡ keys → bs ≡ map (with_key ks) (range_with_len 0 many) → bs ≡ map (with_key keys) (range_with_len 0 (parts + 1))
+keyed_numbers parts e p h = h ∙ (λ i. map (with_key (p i)) (range_with_len 0 (e i)))
 
 pub keyed_ranks : {ks keys rs : List ℕ} → ks ≡ keys → rs ≡ map (rank ks) (range_with_len 0 (length ks)) → rs ≡ map (rank keys) (range_with_len 0 (length keys))
 keyed_ranks p h = h ∙ (λ i. map (rank (p i)) (range_with_len 0 (length (p i))))

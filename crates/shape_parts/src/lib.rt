@@ -8,6 +8,8 @@ mod by_key;
 mod cut;
 mod keys;
 mod marks;
+#[cfg(test)]
+mod tests;
 mod union_find;
 
 pub use by_key::Buckets;

@@ -85,6 +85,9 @@ gather-requires-2 c =
       length-map-range_with_len (is_among c.as_slice-5.result.now) 0 c.args.rows,
     ))
 
+pub marked-requires : goal.marked-requires
+marked-requires c = omega (arith, ap length c.as_slice-15.ensures.value, ap length c.in_ok-met_names.ensures, length-map-range_with_len (is_among c.as_slice-3.result.now) 0 c.args.rows)
+
 pub returns : goal.returns
 returns c =
     let labelled = c.as_slice-7.ensures.value ∙ c.in_ok-labels.ensures in
