@@ -69,7 +69,7 @@ marks_places p = omega (
 
 -- ---- how many of the symbols are in legs
 
-total_le : (k : ℕ) (u v : ℕ → ℕ) → ((a : ℕ) → a < k → u a ≤ v a) → total k u ≤ total k v
+pub total_le : (k : ℕ) (u v : ℕ → ℕ) → ((a : ℕ) → a < k → u a ≤ v a) → total k u ≤ total k v
 unfolding total
 total_le zero u v h = omega arith
 total_le (suc k) u v h = omega (arith, total_le k u v (λ a low. h a (omega arith)), h k (omega arith))
@@ -82,7 +82,7 @@ or_low true b = by b
     by false = omega arith
 or_low false b = omega arith
 
-total_in : (k : ℕ) (xs : List ℕ) → total k (λ a. if is_in a xs then 1 else 0) ≤ length xs
+pub total_in : (k : ℕ) (xs : List ℕ) → total k (λ a. if is_in a xs then 1 else 0) ≤ length xs
 total_in k [] = omega (arith, total_zero k)
 total_in k (x ∷ xs) = omega (
   arith,
@@ -96,29 +96,29 @@ long_symbols : (ms : List Mark) → length (symbols ms) ≡ length ms
 long_symbols [] = refl
 long_symbols (m ∷ ms) = ap suc (long_symbols ms)
 
-total_legs : (k : ℕ) (L : List Leg) → total k (λ a. sum_where L (in_leg a) (λ l. 1)) ≤ marks_in L
+pub total_legs : (k : ℕ) (L : List Leg) → total k (λ a. sum_where L (in_leg a) (λ l. 1)) ≤ marks_in L
 total_legs k [] = omega (arith, total_zero k)
 total_legs k (l ∷ L) = omega (arith, total_plus k (λ a. if in_leg a l then 1 else 0) (λ a. sum_where L (in_leg a) (λ l. 1)), total_in k (symbols l.marks), long_symbols l.marks, total_legs k L)
 
 -- ---- how long the lists are
 
-abbrev long_each : {A B : Type 0} → (A → List B) → List A → ℕ
+abbrev pub long_each : {A B : Type 0} → (A → List B) → List A → ℕ
 long_each f [] = 0
 long_each f (x ∷ xs) = length (f x) + long_each f xs
 
-long_joined : {A B : Type 0} (f : A → List B) (xs : List A) → length (joined f xs) ≡ long_each f xs
+pub long_joined : {A B : Type 0} (f : A → List B) (xs : List A) → length (joined f xs) ≡ long_each f xs
 long_joined f [] = refl
 long_joined f (x ∷ xs) = omega (arith, length-append (f x) (joined f xs), long_joined f xs)
 
-long_append : {A B : Type 0} (f : A → List B) (xs ys : List A) → long_each f (xs ++ ys) ≡ long_each f xs + long_each f ys
+pub long_append : {A B : Type 0} (f : A → List B) (xs ys : List A) → long_each f (xs ++ ys) ≡ long_each f xs + long_each f ys
 long_append f [] ys = omega arith
 long_append f (x ∷ xs) ys = omega (arith, long_append f xs ys)
 
-long_map : {A B C : Type 0} (f : B → List C) (h : A → B) (xs : List A) → long_each f (map h xs) ≡ long_each (λ x. f (h x)) xs
+pub long_map : {A B C : Type 0} (f : B → List C) (h : A → B) (xs : List A) → long_each f (map h xs) ≡ long_each (λ x. f (h x)) xs
 long_map f h [] = refl
 long_map f h (x ∷ xs) = omega (arith, long_map f h xs)
 
-long_filter : {A B : Type 0} (f : A → List B) (p : A → Bool) (xs : List A) → long_each f (filter p xs) ≤ long_each f xs
+pub long_filter : {A B : Type 0} (f : A → List B) (p : A → Bool) (xs : List A) → long_each f (filter p xs) ≤ long_each f xs
 long_filter f p [] = omega arith
 long_filter f p (x ∷ xs) = by (p x) (long_filter f p xs)
   where
@@ -126,19 +126,19 @@ long_filter f p (x ∷ xs) = by (p x) (long_filter f p xs)
     by true e = omega (arith, e)
     by false e = omega (arith, e)
 
-long_same : {A B C : Type 0} (f : A → List B) (h : A → List C) (xs : List A) → ((x : A) → length (f x) ≡ length (h x)) → long_each f xs ≡ long_each h xs
+pub long_same : {A B C : Type 0} (f : A → List B) (h : A → List C) (xs : List A) → ((x : A) → length (f x) ≡ length (h x)) → long_each f xs ≡ long_each h xs
 long_same f h [] e = refl
 long_same f h (x ∷ xs) e = omega (arith, e x, long_same f h xs e)
 
-long_few : {A B : Type 0} (f : A → List B) (xs : List A) → ((x : A) → length (f x) ≤ 1) → long_each f xs ≤ length xs
+pub long_few : {A B : Type 0} (f : A → List B) (xs : List A) → ((x : A) → length (f x) ≤ 1) → long_each f xs ≤ length xs
 long_few f [] h = omega arith
 long_few f (x ∷ xs) h = omega (arith, h x, long_few f xs h)
 
-map_long : {A B : Type 0} (f : A → B) (xs : List A) → length (map f xs) ≡ length xs
+pub map_long : {A B : Type 0} (f : A → B) (xs : List A) → length (map f xs) ≡ length xs
 map_long f [] = refl
 map_long f (x ∷ xs) = ap suc (map_long f xs)
 
-filter_long : (p : ℕ → Bool) (xs : List ℕ) → length (filter p xs) ≤ length xs
+pub filter_long : {A : Type 0} (p : A → Bool) (xs : List A) → length (filter p xs) ≤ length xs
 filter_long p [] = omega arith
 filter_long p (x ∷ xs) = by (p x) (filter_long p xs)
   where
@@ -155,7 +155,7 @@ called_few : (bs : List ℕ) (n : ℕ) → length (called bs n) ≤ 1
 called_few [] n = omega arith
 called_few (b ∷ bs) n = omega arith
 
-long_one : (xs : List ℕ) → sum_of (λ y. 1) xs ≡ length xs
+pub long_one : (xs : List ℕ) → sum_of (λ y. 1) xs ≡ length xs
 long_one [] = refl
 long_one (x ∷ xs) = omega (arith, long_one xs)
 
@@ -163,13 +163,13 @@ id_list : (xs : List ℕ) → map (λ i. i) xs ≡ xs
 id_list [] = refl
 id_list (x ∷ xs) = ap (λ ys. x ∷ ys) (id_list xs)
 
-in_range : (k a : ℕ) → Among a (range_with_len 0 k) → a < k
+pub in_range : (k a : ℕ) → Among a (range_with_len 0 k) → a < k
 in_range k a h = let (i, low, e) = among_row (λ i. i) k a (subst (Among a) (sym (id_list (range_with_len 0 k))) h) in omega arith
 
-range_once : (k : ℕ) → Distinct (range_with_len 0 k)
+pub range_once : (k : ℕ) → Distinct (range_with_len 0 k)
 range_once k = subst Distinct (id_list (range_with_len 0 k)) (distinct_row (λ i. i) (λ i j e. e) k)
 
-range_long : (a k : ℕ) → length (range_with_len a k) ≡ k
+pub range_long : (a k : ℕ) → length (range_with_len a k) ≡ k
 range_long a zero = refl
 range_long a (suc k) = ap suc (range_long (a + 1) k)
 
@@ -187,7 +187,7 @@ total_none : (u : ℕ → ℕ) → 0 ≡ total 0 u
 unfolding total
 total_none u = refl
 
-range_each : (f : ℕ → List ℕ) (a k : ℕ) → long_each f (range_with_len a k) ≡ total k (λ i. length (f (a + i)))
+pub range_each : {A : Type 0} (f : ℕ → List A) (a k : ℕ) → long_each f (range_with_len a k) ≡ total k (λ i. length (f (a + i)))
 range_each f a zero = total_none (λ i. length (f (a + i)))
 range_each f a (suc k) = omega (
   arith,

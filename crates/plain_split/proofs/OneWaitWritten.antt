@@ -36,7 +36,7 @@ pub filter_same : (p q : ℕ → Bool) (xs : List ℕ) → ((x : ℕ) → p x �
 filter_same p q [] h = refl
 filter_same p q (x ∷ xs) h = ap (λ b. cond b (x ∷ filter p xs) (filter p xs)) (h x) ∙ ap (λ ys. cond (q x) (x ∷ ys) ys) (filter_same p q xs h)
 
-same_begin : (s : Start) (n : ℕ) → begins_at s n ≡ is_begin n s
+pub same_begin : (s : Start) (n : ℕ) → begins_at s n ≡ is_begin n s
 same_begin (start.Wait w) n = refl
 same_begin (start.Act m) n = refl
 

@@ -16,6 +16,4 @@ mod round_parts;
 mod rounds_net;
 
 pub use by_style::plain_net;
-pub use joined::{all_outs, all_symbols};
 pub use laws::{one_wait_law, plain_law, rounds_law};
-pub use paths::many;

@@ -6,7 +6,7 @@ use std::test::Fail;
 fn labels_of_lines(rt: HostRuntime) -> Result<(), Fail> {
     // Two rows that share the column 0, a row that shares none, and a column without a crossing.
     let found = labels(rt.alloc(), 3, 3, &[(0, 0), (1, 0), (2, 2)])?;
-    assert_eq!(rt; found.as_slice(), [0, 0, 2, 0, 4, 2]);
+    assert_eq!(rt; found.as_slice(), [0, 0, 2, 0, 4, 2].as_slice());
     Ok(())
 }
 
@@ -19,7 +19,7 @@ fn labels_by_columns_alone(rt: HostRuntime) -> Result<(), Fail> {
         3,
         &[(0, 2), (1, 0), (2, 0), (2, 1), (3, 1), (3, 2)],
     )?;
-    assert_eq!(rt; found.as_slice(), [0, 0, 0, 0, 0, 0, 0]);
+    assert_eq!(rt; found.as_slice(), [0, 0, 0, 0, 0, 0, 0].as_slice());
     Ok(())
 }
 
@@ -29,16 +29,16 @@ fn parts_of_a_shape(rt: HostRuntime) -> Result<(), Fail> {
     assert_eq!(rt; found.len(), 2);
     let first = &found[0];
     assert_eq!(rt; first.name, 0);
-    assert_eq!(rt; first.rows.as_slice(), [0, 2]);
-    assert_eq!(rt; first.columns.as_slice(), [1, 2]);
-    assert_eq!(rt; first.places.as_slice(), [0, 2, 3]);
-    assert_eq!(rt; first.cross.as_slice(), [(0, 0), (1, 0), (1, 1)]);
+    assert_eq!(rt; first.rows.as_slice(), [0, 2].as_slice());
+    assert_eq!(rt; first.columns.as_slice(), [1, 2].as_slice());
+    assert_eq!(rt; first.places.as_slice(), [0, 2, 3].as_slice());
+    assert_eq!(rt; first.cross.as_slice(), [(0, 0), (1, 0), (1, 1)].as_slice());
     let second = &found[1];
     assert_eq!(rt; second.name, 1);
-    assert_eq!(rt; second.rows.as_slice(), [1, 3]);
-    assert_eq!(rt; second.columns.as_slice(), [3]);
-    assert_eq!(rt; second.places.as_slice(), [1, 4]);
-    assert_eq!(rt; second.cross.as_slice(), [(0, 0), (1, 0)]);
+    assert_eq!(rt; second.rows.as_slice(), [1, 3].as_slice());
+    assert_eq!(rt; second.columns.as_slice(), [3].as_slice());
+    assert_eq!(rt; second.places.as_slice(), [1, 4].as_slice());
+    assert_eq!(rt; second.cross.as_slice(), [(0, 0), (1, 0)].as_slice());
     Ok(())
 }
 

@@ -9,3 +9,9 @@ pub mod TokenMeet
 pub mod TokenParts
 pub mod TokenCharted
 pub mod TokenExamples
+mod TokenSteps
+mod TokenRows
+mod TokenNumbered
+mod TokenPlaces
+mod TokenTabled
+mod TokenBuilt

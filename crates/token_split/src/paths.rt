@@ -7,7 +7,6 @@ ghost use Rattle.token_split.specs.Mirror.TokenTables.{links_by, wire_of, name_o
 
 use crate::links::LinkTables;
 use place_graph::Cross;
-use plain_split::many;
 
 /// A wire by its name.
 #[derive(Debug, Clone, Copy, PartialEq, Eq, Hash)]
@@ -53,6 +52,17 @@ pub enum Part {
     Entry(u32),
     /// The MERGE of the acts that give a symbol.
     Shows(u32),
+}
+
+/// Whether there are two or more.
+fn many(numbers: &[u32]) -> bool
+    ensures { result ≡ many numbers.now }
+{
+    match numbers {
+        [] => false,
+        [_] => false,
+        [_, _, ..] => true,
+    }
 }
 
 /// Whether there are two crossings or more.
