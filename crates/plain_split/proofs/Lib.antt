@@ -1,6 +1,8 @@
 pub mod SharedLists
 pub mod SharedPaths
+pub mod SharedSeen
 pub mod OneWaitSums
+pub mod SharedGiven
 pub mod OneWaitWeb
 pub mod OneWaitCounts
 pub mod OneWaitTraces

@@ -31,6 +31,8 @@ use Rattle.net_laws.proofs.Routes.{Joined, Routes, routes_clean, routes_basic, r
 use Rattle.plain_split.specs.SharedPaths.{joined, place}
 use Rattle.plain_split.specs.OneWait.{Wire, Take, Burst, Call, Begin, Put, Give, Name, Env, Join, Calls, Gate, Spread, Shows, Links, same_wire, driver, receiver, many, is_direct, is_kept, next, rest, last, called, inputs, outputs, is_some, is_given, port, ports, gate_kind, show_kind, spec_at, all_names, parts, lines, one_chart}
 use Rattle.plain_split.proofs.SharedLists.{all_by_among, among_filter, filter_among, distinct_filter, distinct_map, among_joined, joined_among, distinct_joined}
+use Rattle.plain_split.proofs.SharedCommands.{comes_of_leg}
+use Rattle.plain_split.proofs.SharedSeen.{seen_traces}
 use Rattle.plain_split.proofs.SharedPaths.{Onward, Backward, near, near_kept, far_kept, far_here, near_far, far_near, path_to, map_places, place_at}
 use Rattle.plain_split.proofs.OneWaitWeb.{wires_decide, sum_of, MergeOn, GateOn, SpreadOn, EnvOn, word, web, lawful}
 use Rattle.plain_split.proofs.OneWaitCounts.{IsOneWait, next_act, acts_with, inputs_with, act_has, input_has}
@@ -376,17 +378,8 @@ module _ (L : List Leg) (out : ℕ → Bool) (T : List ℕ → Type 0) (g : Link
 
   -- ---- wires that are there
 
-  tale_of : (u v : List ℕ) → Tale L u → T (u ++ v) → Tale L (u ++ v)
-  tale_of u [] w h = subst (Tale L) (sym (append-nil u)) w
-  tale_of u (a ∷ v) w h =
-      let e : (u ++ a ∷ []) ++ v ≡ u ++ a ∷ v = append_assoc u (a ∷ []) v in
-      let n : Grows L u a w = plays.grows u a w (closed (u ++ a ∷ []) v (subst T (sym e) h)) in
-      subst (Tale L) e (tale_of (u ++ a ∷ []) v n.next (subst T (sym e) h))
-
   known : (u : List ℕ) (a : ℕ) → T (u ++ a ∷ []) → (l : Leg) × Member L l × Has l a
-  known u a h =
-      let n : Grows L u a (tale_of [] u plays.first (closed u (a ∷ []) h)) = plays.grows u a (tale_of [] u plays.first (closed u (a ∷ []) h)) h in
-      (n.grown.leg, n.grown.among, n.grown.has)
+  known u a h = comes_of_leg L T plays closed u a h
 
   real_out : (w : Wire) (t : List Wire) → d.rule (driver w) t w → There w
   real_out (Take a) t (o, r) = let (l, i, h) = known (word out t) a r in (l, inputs_with L out key no one l a i o h, h)
@@ -683,27 +676,10 @@ module _ (L : List Leg) (out : ℕ → Bool) (T : List ℕ → Type 0) (g : Link
     | inr o ↦ subst (λ w. EnvOn out T v w ↔ T (word out v ++ p ∷ [])) (sym (label_low p low ∙ port_taken p low o)) ((λ r. r.1), (λ r. (o, r)))
   ]
 
-  env_there : (u t : List ℕ) (v : List Wire) → word out v ≡ u → T (u ++ t) → Follows (EnvOn out T) v (map label t)
-  env_there u [] v e h = tt
-  env_there u (p ∷ t) v e h =
-      let more : (u ++ p ∷ []) ++ t ≡ u ++ p ∷ t = append_assoc u (p ∷ []) t in
-      let here : T (u ++ p ∷ []) = closed (u ++ p ∷ []) t (subst T (sym more) h) in
-      let (l, i, has) = known u p here in
-      let low : p < g.names = listed.has_low l p i has in (
-        (env_on v p low).1 (subst (λ z. T (z ++ p ∷ [])) (sym e) here),
-        env_there (u ++ p ∷ []) t (v ++ label p ∷ []) (word_label v p low ∙ ap (λ z. z ++ p ∷ []) e) (subst T (sym more) h),
-      )
-
-  env_back : (u t : List ℕ) (v : List Wire) → word out v ≡ u → T u → Follows (EnvOn out T) v (map label t) → T (u ++ t)
-  env_back u [] v e h f = subst T (sym (append-nil u)) h
-  env_back u (p ∷ t) v e h f =
-      let more : (u ++ p ∷ []) ++ t ≡ u ++ p ∷ t = append_assoc u (p ∷ []) t in
-      let low : p < g.names = env_low v p f.0 in
-      let here : T (u ++ p ∷ []) = subst (λ z. T (z ++ p ∷ [])) e ((env_on v p low).0 f.0) in
-      subst T more (env_back (u ++ p ∷ []) t (v ++ label p ∷ []) (word_label v p low ∙ ap (λ z. z ++ p ∷ []) e) here f.1)
-
   env_may : (t : List ℕ) → May s t ↔ webs.May d Env (map label t)
-  env_may t = ((λ h. env_there [] t [] refl ((traces t).0 h)), (λ f. (traces t).1 (env_back [] t [] refl empty f)))
+  env_may t =
+      let seen : T t ↔ webs.May d Env (map label t) = seen_traces T empty closed g.names label (word out) (EnvOn out T) env_low (λ u a h. let (l, i, x) = known u a h in listed.has_low l a i x) word_label env_on refl t in
+      ((λ h. seen.0 ((traces t).0 h)), (λ f. (traces t).1 (seen.1 f)))
 
   -- ---- lines
 

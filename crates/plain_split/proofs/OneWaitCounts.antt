@@ -15,7 +15,8 @@ use Rattle.place_graph.proofs.Sums.{sum_plus}
 use Rattle.net_laws.proofs.Told.{Flows}
 use Rattle.net_laws.proofs.Woven.{Grew}
 use Rattle.plain_split.specs.OneWait.{Wire, Take, Burst, Call, Begin, Put, Give}
-use Rattle.plain_split.proofs.OneWaitSums.{sum_le, sum_gap, sum_some, sum_only, sum_one}
+use Rattle.plain_split.proofs.SharedGiven.{Gives, ShownBy, given_from, given_lands, given_free, shown_lands}
+use Rattle.plain_split.proofs.OneWaitSums.{one_at, sum_le, sum_gap, sum_some, sum_only, sum_one}
 
 -- the legs of a process with one wait, each of which leads on
 pub record IsOneWait (L : List Leg) (out : ℕ → Bool) : Type 0 where
@@ -29,12 +30,6 @@ some_symbol l h = at l.marks h
     at : (ms : List Mark) → 0 < length ms → (a : ℕ) × IsTrue (is_in a (symbols ms))
     at [] h = absurd (omega arith)
     at (m ∷ ms) h = (m.sym.0, rw (eq-eqb m.sym.0 m.sym.0 refl) refl)
-
-pub one_at : (x y : ℕ) → ((x ≡ y) × (one_if x y ≡ 1)) ⊎ ((x ≡ y → ⊥) × (one_if x y ≡ 0))
-one_at x y = elim (cases_eq x y) [
-  | inl e ↦ inl (e, ap (λ b. if b then 1 else 0) (eq-eqb x y e))
-  | inr e ↦ inr (e, ap (λ b. if b then 1 else 0) (ne_eqb x y e))
-]
 
 not_true : (b : Bool) → true ≡ not b → b ≡ false
 not_true true e = absurd (true≢false e)
@@ -287,62 +282,29 @@ module _ (L : List Leg) (out : ℕ → Bool) (key : Leg → ℕ) (no : ℕ → �
 
       -- ---- what is given
 
-      put_low : (a : ℕ) → out a ≡ true → (m : Leg) → Among L m → in_leg a m ≡ true → F (Put (no m.from) a) ≤ D m + one_if m.from here
-      put_low a o m i h = let j : Acts m = acts_with m a i o h in omega (arith, chain m a j h)
-
-      here_once : (a : ℕ) → out a ≡ true → sum_where L (in_leg a) (λ m. one_if m.from here) ≤ 1
-      here_once a o = sum_one L (in_leg a) (λ m. one_if m.from here) one.chart.increase
-          (λ m i. elim (one_at m.from here) [ inl e ↦ omega (arith, e.1) | inr e ↦ omega (arith, e.1) ])
-          (λ l m i j h x p q. elim (one_at l.from here) [
-            | inl e ↦ elim (one_at m.from here) [
-              | inl z ↦ let y : Acts m = acts_with m a j o x in one.chart.lone m l j i y.1 (e.0 ∙ sym z.0)
-              | inr z ↦ absurd (omega (arith, z.1, q))
-            ]
-            | inr e ↦ absurd (omega (arith, e.1, p))
-          ])
+      gives : Gives L out D here came (λ m a. F (Put (no m.from) a)) (λ m a. P (Put (no m.from) a)) (λ a. F (Give a)) (λ a. P (Give a))
+      gives = record {
+        told = λ m a i e h. k.told m a (i, e) h;
+        handed = λ m a. given (Put (no m.from) a);
+        low = λ m a i e h. omega (arith, chain m a (i, e) h);
+        shown = v.give;
+        gave = t.gave;
+        sent = λ a. given (Give a);
+      }
 
       pub given_chain : (a : ℕ) → out a ≡ true
           → (sum_where L (in_leg a) D ≤ given_by P a) × (given_by P a ≤ given_by F a) × (given_by F a ≤ suc (sum_where L (in_leg a) D))
           × (F (Give a) ≤ given_by P a) × (P (Give a) ≡ sum_where L (in_leg a) D + came a) × (P (Give a) ≤ F (Give a))
-      given_chain a o = (
-        sum_le L (in_leg a) D (λ m. P (Put (no m.from) a)) (λ m i h. k.told m a (acts_with m a i o h) h),
-        sum_le L (in_leg a) (λ m. P (Put (no m.from) a)) (λ m. F (Put (no m.from) a)) (λ m i h. given (Put (no m.from) a)),
-        omega (arith, sum_le L (in_leg a) (λ m. F (Put (no m.from) a)) (λ m. D m + one_if m.from here) (put_low a o), sum_plus L (in_leg a) D (λ m. one_if m.from here), here_once a o),
-        v.give a o,
-        t.gave a o,
-        given (Give a),
-      )
+      given_chain a o = given_from L out one.chart D here came (λ m a. F (Put (no m.from) a)) (λ m a. P (Put (no m.from) a)) (λ a. F (Give a)) (λ a. P (Give a)) gives a o
 
       pub put_lands : (m : Leg) (a : ℕ) → Acts m → Has m a → F (Put (no m.from) a) ≡ suc (P (Put (no m.from) a)) → given_by P a ≡ F (Give a)
-      put_lands m a j h x =
-          omega (
-            arith,
-            given_chain a (act_has m a j h),
-            sum_gap L (in_leg a) (λ m. P (Put (no m.from) a)) (λ m. F (Put (no m.from) a)) (λ m i h. given (Put (no m.from) a)) m j.0 h,
-          )
+      put_lands m a j h x = given_lands L out one.chart D here came (λ m a. F (Put (no m.from) a)) (λ m a. P (Put (no m.from) a)) (λ a. F (Give a)) (λ a. P (Give a)) gives m a j.0 (act_has m a j h) h x
 
       pub give_free : (a : ℕ) → out a ≡ true → F (Give a) < given_by P a → F (Give a) ≡ P (Give a)
-      give_free a o less = omega (arith, given_chain a o, less)
+      give_free a o less = given_free L out one.chart D here came (λ m a. F (Put (no m.from) a)) (λ m a. P (Put (no m.from) a)) (λ a. F (Give a)) (λ a. P (Give a)) gives a o less
 
-      -- the act from here has put more than the environment has come to
-      pub record Shown (a : ℕ) : Type 0 where
-        pub act : Leg
-        pub acts : Acts act
-        pub has : Has act a
-        pub from : act.from ≡ here
-        pub none : came a ≡ 0
-        pub more : D act < P (Put (no act.from) a)
+      abbrev pub Shown : ℕ → Type 0
+      Shown a = ShownBy L D here came (λ m a. P (Put (no m.from) a)) a
 
       pub give_lands : (a : ℕ) → out a ≡ true → F (Give a) ≡ suc (P (Give a)) → Shown a
-      give_lands a o x =
-          let c = given_chain a o in
-          let (m, i, h, less) = sum_some L (in_leg a) D (λ m. P (Put (no m.from) a)) (omega (arith, c, x)) in
-          let j : Acts m = acts_with m a i o h in
-          record {
-            act = m;
-            acts = j;
-            has = h;
-            from = elim (one_at m.from here) [ inl e ↦ e.0 | inr e ↦ absurd (omega (arith, e.1, less, chain m a j h)) ];
-            none = omega (arith, c, x);
-            more = less;
-          }
+      give_lands a o x = shown_lands L out one.chart D here came (λ m a. F (Put (no m.from) a)) (λ m a. P (Put (no m.from) a)) (λ a. F (Give a)) (λ a. P (Give a)) gives a o x

@@ -11,9 +11,9 @@ use Rattle.net_laws.proofs.Told.{Lawful, sent, got, Flows, Went, Leads, pulls, e
 use Rattle.net_laws.proofs.Woven.{Grew, grew_le, grew_same, grew_other, grew_unique, sent_grew, got_grew, got_same, sent_same}
 use Rattle.net_laws.proofs.Among.{Among}
 use Rattle.plain_split.specs.OneWait.{Wire, Take, Burst, Call, Begin, Put, Give, Name, Env, Join, Gate, Spread, Links, same_wire}
-use Rattle.plain_split.proofs.OneWaitSums.{sum_gap, sum_some}
+use Rattle.plain_split.proofs.OneWaitSums.{one_at, sum_gap, sum_some}
 use Rattle.plain_split.proofs.OneWaitWeb.{sum_of, GateOn, SpreadOn, Rule, web, lawful}
-use Rattle.plain_split.proofs.OneWaitCounts.{IsOneWait, one_at, Acts, Inputs, bur, entered, given_by, Ties, enters, act_has, acts_with, take_is, chain, given_chain}
+use Rattle.plain_split.proofs.OneWaitCounts.{IsOneWait, Acts, Inputs, bur, entered, given_by, Ties, enters, act_has, acts_with, take_is, chain, given_chain}
 use Rattle.plain_split.proofs.OneWaitTraces.{Drawn, map_among, all_map_by, Held, Real, ties_of, entered_is, given_is, at_home, story_grows, fresh, tends}
 
 -- the gate of an act that may begin

@@ -1,10 +1,17 @@
 -- Sums over legs.
-use Rattle.std.proofs.Common.{◌≡◌, inl, inr, ⊎_elim, ℕ, ◌+◌, ◌<◌, ◌≤◌, Bool, true, false, true≢false, List, [], ◌∷◌, refl, sym, ap, ◌∙◌, arith, if◌then◌else◌}
-use Rattle.std.proofs.lemmas.Bool.{cases_Bool, cases_lt}
+use Rattle.std.proofs.Common.{◌≡◌, ◌⊎◌, inl, inr, ⊎_elim, ℕ, ◌+◌, ◌<◌, ◌≤◌, Bool, true, false, true≢false, List, [], ◌∷◌, refl, sym, ap, ◌∙◌, arith, if◌then◌else◌, eq-eqb, ne_eqb}
+use Rattle.std.proofs.lemmas.Bool.{cases_Bool, cases_lt, cases_eq}
 use Rattle.place_graph.specs.declared.leg.Leg.{Leg}
 use Rattle.place_graph.specs.Points.{Among}
+use Rattle.place_graph.specs.Tale.{one_if}
 use Rattle.place_graph.specs.Chart.{Increase, sum_where}
 use Rattle.place_graph.proofs.Sums.{sum_none, later_places}
+
+pub one_at : (x y : ℕ) → ((x ≡ y) × (one_if x y ≡ 1)) ⊎ ((x ≡ y → ⊥) × (one_if x y ≡ 0))
+one_at x y = elim (cases_eq x y) [
+  | inl e ↦ inl (e, ap (λ b. if b then 1 else 0) (eq-eqb x y e))
+  | inr e ↦ inr (e, ap (λ b. if b then 1 else 0) (ne_eqb x y e))
+]
 
 abbrev pub when : Bool → ℕ → ℕ
 when b n = if b then n else 0

@@ -173,7 +173,7 @@ pub range_long : (a k : ℕ) → length (range_with_len a k) ≡ k
 range_long a zero = refl
 range_long a (suc k) = ap suc (range_long (a + 1) k)
 
-total_first : (k : ℕ) (u : ℕ → ℕ) → total (suc k) u ≡ u 0 + total k (λ i. u (suc i))
+pub total_first : (k : ℕ) (u : ℕ → ℕ) → total (suc k) u ≡ u 0 + total k (λ i. u (suc i))
 unfolding total
 total_first zero u = omega arith
 total_first (suc k) u = omega (arith, total_first k u)

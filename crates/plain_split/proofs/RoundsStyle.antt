@@ -95,7 +95,7 @@ alternate_long b c (l ∷ L) h = at b h.0 (alternate_long (not b) c L h.1)
         let y : length (acts_of (l ∷ L)) ≡ length (acts_of L) = rw e refl in
         omega arith
 
-put_long : (c : Cross) (ds : List Cross) → length (put c ds) ≡ suc (length ds)
+pub put_long : (c : Cross) (ds : List Cross) → length (put c ds) ≡ suc (length ds)
 put_long c [] = refl
 put_long c (d ∷ ds) = at (is_before d c) (put_long c ds)
   where
@@ -103,7 +103,7 @@ put_long c (d ∷ ds) = at (is_before d c) (put_long c ds)
     at true e = ap suc e
     at false e = refl
 
-order_long : (cs : List Cross) → length (in_order cs) ≡ length cs
+pub order_long : (cs : List Cross) → length (in_order cs) ≡ length cs
 order_long [] = refl
 order_long (c ∷ cs) = put_long c (in_order cs) ∙ ap suc (order_long cs)
 

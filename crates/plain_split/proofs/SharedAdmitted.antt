@@ -21,7 +21,7 @@ use Rattle.place_graph.specs.Points.{legs}
 use Rattle.place_graph.specs.Drawable.{AreDirections, AreSets, IsDrawable}
 use Rattle.place_graph.proofs.Admission.{drawables}
 
-eq_flip : (a b : ℕ) → nat_eq a b ≡ nat_eq b a
+pub eq_flip : (a b : ℕ) → nat_eq a b ≡ nat_eq b a
 eq_flip a b = elim (cases_eq a b) [
   | inl e ↦ eq-eqb a b e ∙ sym (eq-eqb b a (sym e))
   | inr e ↦ ne_eqb a b e ∙ sym (ne_eqb b a (λ x. e (sym x)))

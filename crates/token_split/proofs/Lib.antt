@@ -8,6 +8,12 @@ pub mod TokenRoutes
 pub mod TokenMeet
 pub mod TokenParts
 pub mod TokenCharted
+pub mod TokenLists
+pub mod TokenStart
+pub mod TokenDrawn
+pub mod TokenWires
+pub mod TokenKinds
+pub mod TokenLaw
 pub mod TokenExamples
 mod TokenSteps
 mod TokenRows

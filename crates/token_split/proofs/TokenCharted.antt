@@ -1,5 +1,5 @@
 -- The chart of a process by a token is a chart of its web.
-use Rattle.std.proofs.Common.{◌≡◌, ◌↔◌, ◌⊎◌, inl, inr, ⊎_elim, ℕ, zero, suc, ◌+◌, ◌<◌, ◌≤◌, ◌^◌, Bool, true, false, true≢false, filter, List, [], ◌∷◌, ◌++◌, length, map, replicate, get_or, refl, sym, ap, ◌∙◌, subst, arith, if◌then◌else◌, append_assoc, append-nil, length-append}
+use Rattle.std.proofs.Common.{◌≡◌, ◌↔◌, ◌⊎◌, inl, inr, ⊎_elim, ℕ, ◌+◌, ◌<◌, ◌≤◌, ◌^◌, Bool, true, false, true≢false, filter, List, [], ◌∷◌, ◌++◌, length, map, replicate, get_or, refl, sym, ap, ◌∙◌, subst, arith, if◌then◌else◌, append_assoc, append-nil, length-append}
 use Rattle.std.specs.Prelude.{IsTrue}
 use Rattle.std.specs.List.{AllByRecursion, range_with_len}
 use Rattle.std.proofs.lemmas.Bool.{cases_Bool, cases_lt}
@@ -29,19 +29,19 @@ use Rattle.net_laws.proofs.Routes.{Joined, Routes, routes_clean, routes_basic, r
 use Rattle.plain_split.specs.SharedPaths.{joined, place}
 use Rattle.plain_split.specs.OneWait.{many}
 use Rattle.plain_split.proofs.SharedLists.{all_by_among, among_filter, filter_among, distinct_filter, distinct_map, among_joined, joined_among, distinct_joined}
+use Rattle.plain_split.proofs.SharedSeen.{seen_traces}
 use Rattle.plain_split.proofs.SharedPaths.{Onward, Backward, near, near_kept, far_kept, far_here, near_far, far_near, path_to, map_places, place_at}
 use Rattle.plain_split.proofs.SharedCommands.{comes_of_leg}
-use Rattle.plain_split.proofs.OneWaitWeb.{sum_of, MergeOn}
+use Rattle.plain_split.proofs.OneWaitWeb.{MergeOn}
 use Rattle.plain_split.proofs.OneWaitTraces.{among_map, map_among}
 use Rattle.plain_split.proofs.OneWaitChart.{many_some, many_two, some_given, given_some, as_long, map_id, merge_may, join_traces, fork_traces, joined_row}
 use Rattle.token_split.specs.TokenChart.{Wire, Take, Burst, Return, Row, Cross, Call, Begin, Put, Exit, Give, Name, Env, Join, Meet, Calls, Gate, Spread, Returns, Entry, Shows, Links, same_wire, driver, receiver, is_kept, next, rest, last, cross_wire, one_wire, inputs, outputs, is_given, port, ports, gate_kind, spec_at, all_names, components, lines, token_chart}
-use Rattle.token_split.proofs.TokenWeb.{wires_decide, GateOn, JoinOn, ForkOn, RowOn, ColumnOn, CrossOn, MeetOn, EnvOn, word, web, lawful}
+use Rattle.token_split.proofs.TokenWeb.{wires_decide, GateOn, JoinOn, ForkOn, EnvOn, word, web, lawful}
 use Rattle.token_split.proofs.TokenRules.{gate_some, join_some, join_taken, fork_out, fork_some, take_end, give_end}
 use Rattle.token_split.proofs.TokenCounts.{Numbered, acts_with, inputs_with, act_has, input_has, next_act, next_wait}
-use Rattle.token_split.proofs.TokenTraces.{Drawn, Real, Act, Input, crossing, cross_of, exit_of, burst_there, real_return, returned_by, row_there, real_call, begin_there, real_put, real_exit, real_give, real_cross, sound}
+use Rattle.token_split.proofs.TokenTraces.{Drawn, Real, crossing, burst_there, real_return, returned_by, row_there, real_call, begin_there, real_put, real_exit, real_give, real_cross, sound}
 use Rattle.token_split.proofs.TokenExact.{exact}
 use Rattle.token_split.proofs.TokenRoutes.{Listed, back, prev, onward, backward, apart_at}
-use Rattle.token_split.proofs.TokenMeet.{meet_ports}
 use Rattle.token_split.proofs.TokenParts.{IsPart, part_may, part_formed, part_sides}
 
 -- no group is too wide for a component
@@ -362,9 +362,9 @@ module _ (L : List Leg) (out : ℕ → Bool) (T : List ℕ → Type 0) (g : Link
       (distinct_both joins after_joins (distinct_row Join (λ i j e. cc) g.bursts)
       (distinct_both (map Meet g.parts) after_parts (distinct_map Meet (λ i j e. cc) g.parts listed.parts_once)
       (distinct_both acts after_acts (distinct_joined of_act (range_with_len 0 g.acts) (range_once g.acts) (λ n a. act_once n)
-          (λ n m x i j a b. sym (of_act_at n x a (among_low g.acts n i)).1 ∙ (of_act_at m x b (among_low g.acts m j)).1))
+      (λ n m x i j a b. sym (of_act_at n x a (among_low g.acts n i)).1 ∙ (of_act_at m x b (among_low g.acts m j)).1))
       (distinct_both waits shows (distinct_joined of_wait (range_with_len 0 g.waits) (range_once g.waits) (λ n a. wait_once n)
-          (λ n m x i j a b. sym (of_wait_at n x a (among_low g.waits n i)).1 ∙ (of_wait_at m x b (among_low g.waits m j)).1))
+      (λ n m x i j a b. sym (of_wait_at n x a (among_low g.waits n i)).1 ∙ (of_wait_at m x b (among_low g.waits m j)).1))
       (distinct_row Shows (λ i j e. cc) g.names)
       (λ x a b. omega (arith, (wait_stands x a).1, (show_stands x b).1)))
       (λ x a b. omega (arith, (act_stands x a).1, (after_acts_from x b).1)))
@@ -743,27 +743,10 @@ module _ (L : List Leg) (out : ℕ → Bool) (T : List ℕ → Type 0) (g : Link
     | inr o ↦ subst (λ w. EnvOn out T v w ↔ T (word out v ++ p ∷ [])) (sym (label_low p low ∙ port_taken p low o)) ((λ r. r.1), (λ r. (o, r)))
   ]
 
-  env_there : (u t : List ℕ) (v : List Wire) → word out v ≡ u → T (u ++ t) → Follows (EnvOn out T) v (map label t)
-  env_there u [] v e h = tt
-  env_there u (p ∷ t) v e h =
-      let more : (u ++ p ∷ []) ++ t ≡ u ++ p ∷ t = append_assoc u (p ∷ []) t in
-      let here : T (u ++ p ∷ []) = closed (u ++ p ∷ []) t (subst T (sym more) h) in
-      let (l, i, has) = known u p here in
-      let low : p < g.names = listed.has_low l p i has in (
-        (env_on v p low).1 (subst (λ z. T (z ++ p ∷ [])) (sym e) here),
-        env_there (u ++ p ∷ []) t (v ++ label p ∷ []) (word_label v p low ∙ ap (λ z. z ++ p ∷ []) e) (subst T (sym more) h),
-      )
-
-  env_back : (u t : List ℕ) (v : List Wire) → word out v ≡ u → T u → Follows (EnvOn out T) v (map label t) → T (u ++ t)
-  env_back u [] v e h f = subst T (sym (append-nil u)) h
-  env_back u (p ∷ t) v e h f =
-      let more : (u ++ p ∷ []) ++ t ≡ u ++ p ∷ t = append_assoc u (p ∷ []) t in
-      let low : p < g.names = env_low v p f.0 in
-      let here : T (u ++ p ∷ []) = subst (λ z. T (z ++ p ∷ [])) e ((env_on v p low).0 f.0) in
-      subst T more (env_back (u ++ p ∷ []) t (v ++ label p ∷ []) (word_label v p low ∙ ap (λ z. z ++ p ∷ []) e) here f.1)
-
   env_may : (t : List ℕ) → May s t ↔ webs.May d Env (map label t)
-  env_may t = ((λ h. env_there [] t [] refl ((traces t).0 h)), (λ f. (traces t).1 (env_back [] t [] refl empty f)))
+  env_may t =
+      let seen : T t ↔ webs.May d Env (map label t) = seen_traces T empty closed g.names label (word out) (EnvOn out T) env_low (λ u a h. let (l, i, x) = known u a h in listed.has_low l a i x) word_label env_on refl t in
+      ((λ h. seen.0 ((traces t).0 h)), (λ f. (traces t).1 (seen.1 f)))
 
   -- ---- lines
 
@@ -780,26 +763,29 @@ module _ (L : List Leg) (out : ℕ → Bool) (T : List ℕ → Type 0) (g : Link
   givens = map Give (filter (is_given g) (range_with_len 0 g.names))
 
   -- a wire stands among the inputs of its receiver, where that is a component
-  comes_named : (w : Wire) → There w → (receiver g w ≡ Env) ⊎ (Named (receiver g w) × Among w (inputs g (receiver g w)))
+  comes_named : (w : Wire) → There w → ((a : ℕ) × (w ≡ Give a)) ⊎ (Named (receiver g w) × Among w (inputs g (receiver g w)))
   comes_named (Take a) (l, j, h) =
       let home_is : key l ≡ g.home a = sym (drawn.home_is l a j h) in
       inr (omega (arith, listed.key_low l j, home_is), map_among Take (g.symbols (g.home a)) a (subst (λ b. Among a (g.symbols b)) home_is (drawn.in_burst l a j h)))
   comes_named (Burst b) (l, j, e) =
       let p : Among (g.column_part (key l)) g.parts = subst (λ i. Among i g.parts) (drawn.same_part l j) (listed.in_parts l j) in
-      subst (λ b. (Meet (g.column_part b) ≡ Env) ⊎ (Among (g.column_part b) g.parts × Among (Burst b) (map Row (g.rows (g.column_part b)) ++ map Burst (g.columns (g.column_part b))))) e
+      subst (λ b. ((a : ℕ) × (Burst b ≡ Give a)) ⊎ (Among (g.column_part b) g.parts × Among (Burst b) (map Row (g.rows (g.column_part b)) ++ map Burst (g.columns (g.column_part b))))) e
       (inr (p, among_right (Burst (key l)) (map Row (g.rows (g.column_part (key l)))) (map Burst (g.columns (g.column_part (key l)))) (map_among Burst (g.columns (g.column_part (key l))) (key l) (drawn.in_columns l j))))
   comes_named (Return x) (l, m, j, k, to, e) =
       let low : x < g.waits = omega (arith, listed.wait_low l j, e) in
       inr (low, is_one_wire (g.returns x) (Return x) (no m.from) (subst (λ y. Among (no m.from) (g.returns y)) (ap wait to ∙ e) (drawn.back_in m k)))
   comes_named (Row x) (l, j, e) =
-      subst (λ x. (Meet (g.row_part x) ≡ Env) ⊎ (Among (g.row_part x) g.parts × Among (Row x) (map Row (g.rows (g.row_part x)) ++ map Burst (g.columns (g.row_part x))))) e
+      subst (λ x. ((a : ℕ) × (Row x ≡ Give a)) ⊎ (Among (g.row_part x) g.parts × Among (Row x) (map Row (g.rows (g.row_part x)) ++ map Burst (g.columns (g.row_part x))))) e
       (inr (listed.in_parts l j, among_left (Row (wait l.from)) (map Row (g.rows (g.row_part (wait l.from)))) (map Burst (g.columns (g.row_part (wait l.from)))) (map_among Row (g.rows (g.row_part (wait l.from))) (wait l.from) (drawn.in_rows l j))))
   comes_named (Cross x b n) (l, j, e) =
       let (m, k, to) = next_act L out key home no wait one l j in
       let z : no l.to ≡ n = cc in
       let low : n < g.acts = omega (arith, listed.no_low m k, ap no to, z) in
-      inr (low, subst (λ w. Among w (map cross_wire (g.entries n))) e (map_among cross_wire (g.entries n) (crossing L out T g key home no wait one plays drawn l)
-          (subst (λ n. Among (crossing L out T g key home no wait one plays drawn l) (g.entries n)) z (drawn.entry l j))))
+      inr (
+        low,
+        subst (λ w. Among w (map cross_wire (g.entries n))) e (map_among cross_wire (g.entries n) (crossing L out T g key home no wait one plays drawn l)
+            (subst (λ n. Among (crossing L out T g key home no wait one plays drawn l) (g.entries n)) z (drawn.entry l j))),
+      )
   comes_named (Call n) (l, j, z) =
       let (m, k, to) = next_act L out key home no wait one l j in
       let low : n < g.acts = omega (arith, listed.no_low m k, ap no to, z) in
@@ -812,19 +798,21 @@ module _ (L : List Leg) (out : ℕ → Bool) (T : List ℕ → Type 0) (g : Link
       let z : wait m.to ≡ x = cc in
       let low : x < g.waits = omega (arith, listed.wait_low l k, ap wait from, z) in
       inr (low, map_among (λ n. Exit n x) (g.returns x) n (subst (λ n. Among n (g.returns x)) y (subst (λ x. Among (no m.from) (g.returns x)) z (drawn.back_in m j))))
-  comes_named (Give a) t = inl refl
+  comes_named (Give a) t = inl (a, refl)
 
   -- a wire stands among the outputs of its driver, where that is a component
-  goes_named : (w : Wire) → There w → (driver g w ≡ Env) ⊎ (Named (driver g w) × Among w (outputs g (driver g w)))
-  goes_named (Take a) t = inl refl
+  goes_named : (w : Wire) → There w → ((a : ℕ) × (w ≡ Take a)) ⊎ (Named (driver g w) × Among w (outputs g (driver g w)))
+  goes_named (Take a) t = inl (a, refl)
   goes_named (Burst b) (l, j, e) = inr ((let low : b < g.bursts = omega (arith, listed.key_low l j, e) in low), inl refl)
   goes_named (Return x) (l, m, j, k, to, e) = inr ((let low : x < g.waits = omega (arith, listed.wait_low l j, e) in low), inl refl)
   goes_named (Row x) (l, j, e) = inr ((let low : x < g.waits = omega (arith, listed.wait_low l j, e) in low), inl refl)
   goes_named (Cross x b n) (l, j, e) =
       let z : wait l.from ≡ x = cc in
-      inr (subst (λ x. Among (g.row_part x) g.parts) z (listed.in_parts l j),
-      subst (λ w. Among w (map cross_wire (g.meets (g.row_part x)))) e (map_among cross_wire (g.meets (g.row_part x)) (crossing L out T g key home no wait one plays drawn l)
-      (subst (λ x. Among (crossing L out T g key home no wait one plays drawn l) (g.meets (g.row_part x))) z (drawn.in_meets l j))))
+      inr (
+        subst (λ x. Among (g.row_part x) g.parts) z (listed.in_parts l j),
+        subst (λ w. Among w (map cross_wire (g.meets (g.row_part x)))) e (map_among cross_wire (g.meets (g.row_part x)) (crossing L out T g key home no wait one plays drawn l)
+            (subst (λ x. Among (crossing L out T g key home no wait one plays drawn l) (g.meets (g.row_part x))) z (drawn.in_meets l j))),
+      )
   goes_named (Call n) (l, j, z) =
       let (m, k, to) = next_act L out key home no wait one l j in
       inr ((let low : n < g.acts = omega (arith, listed.no_low m k, ap no to, z) in low), inl refl)
@@ -843,23 +831,13 @@ module _ (L : List Leg) (out : ℕ → Bool) (T : List ℕ → Type 0) (g : Link
 
   lines_among : (w : Wire) → There w → Kept (receiver g w) → Among w (lines g)
   lines_among w t k = elim (comes_named w t) [
-    | inl e ↦ given_in w t e
+    | inl (a, e) ↦
+        let (m, j, h) = subst There e t in
+        subst (λ w. Among w (lines g)) (sym e) (among_left (Give a) givens (joined (inputs g) (components g))
+        (map_among Give (filter (is_given g) (range_with_len 0 g.names)) a (among_filter (is_given g) (range_with_len 0 g.names) a (low_among g.names a (listed.has_low m a j.0 h))
+        (some_given (g.givers a) (no m.from) (drawn.giver m a j h)))))
     | inr (h, a) ↦ among_right w givens (joined (inputs g) (components g)) (among_joined (inputs g) (components g) (receiver g w) w (component_among (receiver g w) h k) a)
   ]
-    where
-      given_in : (w : Wire) → There w → receiver g w ≡ Env → Among w (lines g)
-      given_in (Take a) t e = absurd (cc)
-      given_in (Burst b) t e = absurd (cc)
-      given_in (Return x) t e = absurd (cc)
-      given_in (Row x) t e = absurd (cc)
-      given_in (Cross x b n) t e = absurd (cc)
-      given_in (Call n) t e = absurd (cc)
-      given_in (Begin n) t e = absurd (cc)
-      given_in (Put n a) t e = absurd (cc)
-      given_in (Exit n x) t e = absurd (cc)
-      given_in (Give a) (m, j, h) e = among_left (Give a) givens (joined (inputs g) (components g))
-          (map_among Give (filter (is_given g) (range_with_len 0 g.names)) a (among_filter (is_given g) (range_with_len 0 g.names) a (low_among g.names a (listed.has_low m a j.0 h))
-          (some_given (g.givers a) (no m.from) (drawn.giver m a j h))))
 
   given_line : (w : Wire) → Among w givens → There w × (receiver g w ≡ Env)
   given_line w a =
@@ -918,39 +896,19 @@ module _ (L : List Leg) (out : ℕ → Bool) (T : List ℕ → Type 0) (g : Link
 
   driven_at : (w : Wire) → There w → Kept (driver g w) → AtNode (driver g w) w
   driven_at w t k = elim (goes_named w t) [
-    | inl e ↦ taken w t e
+    | inl (a, e) ↦
+        let (l, j, h) = subst There e t in
+        subst (λ w. AtNode (driver g w) w) (sym e) (env_port (Take a) a (listed.has_low l a j.0 h) (port_taken a (listed.has_low l a j.0 h) (input_has L out key home no wait one l a j h)))
     | inr (h, a) ↦ (inr (component_among (driver g w) h k), subst (Among w) (sym (ports_are (driver g w) h)) (among_right w (inputs g (driver g w)) (outputs g (driver g w)) a))
   ]
-    where
-      taken : (w : Wire) → There w → driver g w ≡ Env → AtNode (driver g w) w
-      taken (Take a) (l, j, h) e = env_port (Take a) a (listed.has_low l a j.0 h) (port_taken a (listed.has_low l a j.0 h) (input_has L out key home no wait one l a j h))
-      taken (Burst b) t e = absurd (cc)
-      taken (Return x) t e = absurd (cc)
-      taken (Row x) t e = absurd (cc)
-      taken (Cross x b n) t e = absurd (cc)
-      taken (Call n) t e = absurd (cc)
-      taken (Begin n) t e = absurd (cc)
-      taken (Put n a) t e = absurd (cc)
-      taken (Exit n x) t e = absurd (cc)
-      taken (Give a) t e = absurd (cc)
 
   received_at : (w : Wire) → There w → Kept (receiver g w) → AtNode (receiver g w) w
   received_at w t k = elim (comes_named w t) [
-    | inl e ↦ given w t e
+    | inl (a, e) ↦
+        let (m, j, h) = subst There e t in
+        subst (λ w. AtNode (receiver g w) w) (sym e) (env_port (Give a) a (listed.has_low m a j.0 h) (port_given a (listed.has_low m a j.0 h) (act_has L out key home no wait one m a j h)))
     | inr (h, a) ↦ (inr (component_among (receiver g w) h k), subst (Among w) (sym (ports_are (receiver g w) h)) (among_left w (inputs g (receiver g w)) (outputs g (receiver g w)) a))
   ]
-    where
-      given : (w : Wire) → There w → receiver g w ≡ Env → AtNode (receiver g w) w
-      given (Take a) t e = absurd (cc)
-      given (Burst b) t e = absurd (cc)
-      given (Return x) t e = absurd (cc)
-      given (Row x) t e = absurd (cc)
-      given (Cross x b n) t e = absurd (cc)
-      given (Call n) t e = absurd (cc)
-      given (Begin n) t e = absurd (cc)
-      given (Put n a) t e = absurd (cc)
-      given (Exit n x) t e = absurd (cc)
-      given (Give a) (m, j, h) e = env_port (Give a) a (listed.has_low m a j.0 h) (port_given a (listed.has_low m a j.0 h) (act_has L out key home no wait one m a j h))
 
   kept_or : (x : Name) → Kept x ⊎ (Kept x → ⊥)
   kept_or x = elim (cases_Bool (is_kept g x)) [ inl e ↦ inl e | inr e ↦ inr (λ k. true≢false (sym k ∙ e)) ]

@@ -1,7 +1,7 @@
 -- The counts of the network of a process by a token: no event has a hazard. At most one crossing and one act lag behind the environment, or are ahead of it,
 -- and the token stands at one row.
-use Rattle.std.proofs.Common.{eq-eqb, eqb-true, ◌≡◌, ◌⊎◌, inl, inr, ⊎_elim, ℕ, suc, ◌+◌, ◌<◌, ◌≤◌, Bool, true, false, true≢false, IsTrue, List, [], ◌∷◌, refl, sym, ap, ◌∙◌, subst, arith, if◌then◌else◌}
-use Rattle.std.specs.Prelude.{not, ◌&&◌, nat_eq}
+use Rattle.std.proofs.Common.{eq-eqb, eqb-true, ◌≡◌, ◌⊎◌, inl, inr, ⊎_elim, ℕ, suc, ◌+◌, ◌<◌, ◌≤◌, Bool, true, false, true≢false, List, refl, sym, ap, ◌∙◌, subst, arith}
+use Rattle.std.specs.Prelude.{not, ◌&&◌}
 use Rattle.std.proofs.lemmas.Bool.{cases_eq, cases_lt, cases_Bool}
 use Rattle.place_graph.specs.declared.leg.Leg.{Leg}
 use Rattle.place_graph.specs.Points.{Among}
@@ -11,27 +11,17 @@ use Rattle.place_graph.specs.Chart.{Has, LeadsOn, Chart, Homes, Under, Stands, s
 use Rattle.place_graph.proofs.Sums.{sum_plus, one_same, one_other}
 use Rattle.net_laws.proofs.Told.{Flows}
 use Rattle.net_laws.proofs.Woven.{Grew}
-use Rattle.plain_split.proofs.OneWaitSums.{sum_le, sum_gap, sum_some, sum_only, sum_one, sum_tests}
-use Rattle.plain_split.proofs.OneWaitCounts.{some_symbol, one_at, grew_bound}
+use Rattle.plain_split.proofs.OneWaitSums.{one_at, sum_le, sum_gap, sum_some, sum_only, sum_one, sum_tests}
+use Rattle.plain_split.proofs.OneWaitCounts.{some_symbol, grew_bound}
+use Rattle.plain_split.proofs.SharedGiven.{Gives, ShownBy, given_from, given_lands, given_free, shown_lands}
 use Rattle.plain_split.proofs.OneWaitTraces.{place_one}
+use Rattle.plain_split.proofs.OneWaitDrawn.{was_not, and_both, both_and}
 use Rattle.token_split.specs.TokenChart.{Wire, Take, Burst, Return, Row, Cross, Call, Begin, Put, Exit, Give}
-use Rattle.token_split.proofs.TokenSums.{sum_gap_two, place_once, sum_late, sum_low, sum_grew}
+use Rattle.token_split.proofs.TokenSums.{sum_gap_two, sum_late, sum_low, sum_grew}
 
-not_true : (b : Bool) → true ≡ not b → b ≡ false
-not_true true e = absurd (true≢false e)
-not_true false e = refl
-
-not_false : (b : Bool) → false ≡ not b → b ≡ true
-not_false true e = refl
-not_false false e = absurd (true≢false (sym e))
-
-and_two : (a b : Bool) → (a && b) ≡ true → (a ≡ true) × (b ≡ true)
-and_two true b h = (refl, h)
-and_two false b h = absurd (true≢false (sym h))
-
-two_and : (a b : Bool) → a ≡ true → b ≡ true → (a && b) ≡ true
-two_and true b h k = k
-two_and false b h k = absurd (true≢false (sym h))
+was_act : (b : Bool) → not b ≡ false → b ≡ true
+was_act true e = refl
+was_act false e = absurd (true≢false e)
 
 -- The legs lead on from each other, `key l` is the number of the burst of an input leg, `no x` that of the act at the point x, and `wait x` that of the wait there.
 pub record Numbered (L : List Leg) (out : ℕ → Bool) (key : Leg → ℕ) (home no wait : ℕ → ℕ) : Type 0 where
@@ -134,19 +124,21 @@ module _ (L : List Leg) (out : ℕ → Bool) (key : Leg → ℕ) (home no wait :
     behind = v.behind;
   }
 
-  -- the wire may be fired
-  pub record Guard (D : Leg → ℕ) (F P : Wire → ℕ) (w : Wire) : Type 0 where
-    pub bursts : (l : Leg) (a : ℕ) → Inputs l → Has l a → bur l ≡ w → F (bur l) < P (Take a)
-    pub columns : (l k : Leg) (a : ℕ) → Inputs l → Inputs k → Has l a → Has k a → cross k ≡ w → met F a < P (bur l)
-    pub rows : (l k : Leg) → Inputs l → Inputs k → k.from ≡ l.from → cross k ≡ w → crossed F l.from < P (row l.from)
-    pub calls : (m : Leg) → Acts m → call m ≡ w → F (call m) < entered P m.from
-    pub begins : (m : Leg) → Acts m → begin m ≡ w → F (begin m) < one_if m.from 1 + P (call m)
-    pub puts : (m : Leg) (a : ℕ) → Acts m → Has m a → Put (no m.from) a ≡ w → F (Put (no m.from) a) < P (begin m)
-    pub exits : (m : Leg) → Acts m → exit m ≡ w → F (exit m) < P (begin m)
-    pub backs : (l : Leg) → Inputs l → back l.from ≡ w → F (back l.from) < left P l.from
-    pub gates : (l : Leg) → Inputs l → row l.from ≡ w → F (row l.from) < one_if l.from 1 + P (back l.from)
-    pub gives : (a : ℕ) → out a ≡ true → Give a ≡ w → F (Give a) < given_by P a
-    pub behind : (l : Leg) → Inputs l → cross l ≡ w → F (cross l) < D l
+  -- the wire may be fired: of a crossing the row and the column are pending, and it lags
+  abbrev pub Pends : (D : Leg → ℕ) (F P : Wire → ℕ) → Leg → Type 0
+  Pends D F P k = (crossed F k.from < P (row k.from)) × ((a : ℕ) → Has k a → met F a < P (bur k)) × (F (cross k) < D k)
+
+  abbrev pub Fires : (D : Leg → ℕ) (F P : Wire → ℕ) → Wire → Type 0
+  Fires D F P (Take a) = Unit {0}
+  Fires D F P (Burst b) = (l : Leg) (a : ℕ) → Inputs l → Has l a → key l ≡ b → F (Burst b) < P (Take a)
+  Fires D F P (Return x) = (l : Leg) → Inputs l → wait l.from ≡ x → F (Return x) < left P l.from
+  Fires D F P (Row x) = (l : Leg) → Inputs l → wait l.from ≡ x → F (Row x) < one_if l.from 1 + P (Return x)
+  Fires D F P (Cross x b n) = (k : Leg) → Inputs k → cross k ≡ Cross x b n → Pends D F P k
+  Fires D F P (Call n) = (m : Leg) → Acts m → no m.from ≡ n → F (Call n) < entered P m.from
+  Fires D F P (Begin n) = (m : Leg) → Acts m → no m.from ≡ n → F (Begin n) < one_if m.from 1 + P (Call n)
+  Fires D F P (Put n a) = (m : Leg) → Acts m → Has m a → no m.from ≡ n → F (Put n a) < P (Begin n)
+  Fires D F P (Exit n x) = (m : Leg) → Acts m → no m.from ≡ n → wait m.to ≡ x → F (Exit n x) < P (Begin n)
+  Fires D F P (Give a) = out a ≡ true → F (Give a) < given_by P a
 
   module _ (one : Numbered L out key home no wait) where
     -- a leg to an act is an input
@@ -154,7 +146,7 @@ module _ (L : List Leg) (out : ℕ → Bool) (key : Leg → ℕ) (home no wait :
     enters m l i a e =
         let n : LeadsOn L l = one.on l a in
         let same : n.next ≡ m = one.chart.lone m n.next i.0 n.among i.1 (n.from ∙ e) in
-        (a, not_true (is_act l) (sym i.1 ∙ sym (ap is_act same) ∙ n.turns))
+        (a, was_not (is_act l) (sym n.turns ∙ ap is_act same ∙ i.1))
 
     -- the act that an input leads to
     pub next_act : (l : Leg) → Inputs l → (m : Leg) × Acts m × (m.from ≡ l.to)
@@ -182,7 +174,7 @@ module _ (L : List Leg) (out : ℕ → Bool) (key : Leg → ℕ) (home no wait :
     leaves l m i a e =
         let n : LeadsOn L m = one.on m a in
         let j : Inputs n.next = from_wait l n.next i n.among (n.from ∙ e) in
-        (a, not_false (is_act m) (sym j.1 ∙ n.turns))
+        (a, was_act (is_act m) (sym n.turns ∙ j.1))
 
     pub act_has : (m : Leg) (a : ℕ) → Acts m → Has m a → out a ≡ true
     act_has m a i h = one.chart.dirs m a i.0 h ∙ i.1
@@ -231,32 +223,40 @@ module _ (L : List Leg) (out : ℕ → Bool) (key : Leg → ℕ) (home no wait :
         either false true f g = g refl
         either false false f g = refl
 
-    pub lines_fired : (D : Leg → ℕ) (F P : Wire → ℕ) (w : Wire) (G : Wire → ℕ) → Lines F P → Guard D F P w → Grew F w G → Lines G P
-    lines_fired D F P w G v k g = record {
-      bursts = λ l a i x. grew_bound F w G g (bur l) (P (Take a)) (v.bursts l a i x) (k.bursts l a i x);
-      columns = λ l a i x.
-          let inner : (m : Leg) → Among L m → in_leg a m ≡ true → Inputs m = λ m b y. inputs_with m a b (input_has l a i x) y in
-          sum_grew L one.chart.increase (in_leg a) cross (λ m n b c p q e. one_cross m n (inner m b p) (inner n c q) e) F w G g (P (bur l)) (v.columns l a i x)
-          (λ m b y e. k.columns l m a i (inner m b y) x y e);
-      rows = λ l i.
-          let inner : (m : Leg) → Among L m → from_at l.from m ≡ true → Inputs m = λ m b y. from_wait l m i b (sym (eqb-true l.from m.from y)) in
-          sum_grew L one.chart.increase (from_at l.from) cross (λ m n b c p q e. one_cross m n (inner m b p) (inner n c q) e) F w G g (P (row l.from)) (v.rows l i)
-          (λ m b y e. k.rows l m i (inner m b y) (sym (eqb-true l.from m.from y)) e);
-      calls = λ m i. grew_bound F w G g (call m) (entered P m.from) (v.calls m i) (k.calls m i);
-      begins = λ m i. grew_bound F w G g (begin m) (one_if m.from 1 + P (call m)) (v.begins m i) (k.begins m i);
-      puts = λ m a i x. grew_bound F w G g (Put (no m.from) a) (P (begin m)) (v.puts m a i x) (k.puts m a i x);
-      exits = λ m i. grew_bound F w G g (exit m) (P (begin m)) (v.exits m i) (k.exits m i);
-      backs = λ l i. grew_bound F w G g (back l.from) (left P l.from) (v.backs l i) (k.backs l i);
-      gates = λ l i. grew_bound F w G g (row l.from) (one_if l.from 1 + P (back l.from)) (v.gates l i) (k.gates l i);
-      gives = λ a o. grew_bound F w G g (Give a) (given_by P a) (v.gives a o) (k.gives a o);
-    }
+    module _ (D : Leg → ℕ) (F P : Wire → ℕ) (w : Wire) (k : Fires D F P w) where
+      -- what the wire is says what it may be fired by
+      fires : (v : Wire) → v ≡ w → Fires D F P v
+      fires v e = subst (Fires D F P) (sym e) k
 
-    pub front_fired : (D : Leg → ℕ) (here : ℕ) (came : ℕ → ℕ) (F P : Wire → ℕ) (w : Wire) (G : Wire → ℕ) → Front D here came F P → Guard D F P w → Grew F w G → Front D here came G P
-    front_fired D here came F P w G v k g = record {
-      told = v.told;
-      ahead = v.ahead;
-      behind = λ l i. grew_bound F w G g (cross l) (D l) (v.behind l i) (k.behind l i);
-    }
+      pends : (m : Leg) → Inputs m → cross m ≡ w → Pends D F P m
+      pends m i e = fires (cross m) e m i refl
+
+      pub lines_fired : (G : Wire → ℕ) → Lines F P → Grew F w G → Lines G P
+      lines_fired G v g = record {
+        bursts = λ l a i x. grew_bound F w G g (bur l) (P (Take a)) (v.bursts l a i x) (λ e. fires (bur l) e l a i x refl);
+        columns = λ l a i x.
+            let inner : (m : Leg) → Among L m → in_leg a m ≡ true → Inputs m = λ m b y. inputs_with m a b (input_has l a i x) y in
+            sum_grew L one.chart.increase (in_leg a) cross (λ m n b c p q e. one_cross m n (inner m b p) (inner n c q) e) F w G g (P (bur l)) (v.columns l a i x)
+            (λ m b y e. omega (arith, (pends m (inner m b y) e).1 a y, ap (λ n. P (Burst n)) (one_burst l m a i (inner m b y) x y)));
+        rows = λ l i.
+            let inner : (m : Leg) → Among L m → from_at l.from m ≡ true → Inputs m = λ m b y. from_wait l m i b (sym (eqb-true l.from m.from y)) in
+            sum_grew L one.chart.increase (from_at l.from) cross (λ m n b c p q e. one_cross m n (inner m b p) (inner n c q) e) F w G g (P (row l.from)) (v.rows l i)
+            (λ m b y e. subst (λ x. crossed F x < P (row x)) (sym (eqb-true l.from m.from y)) (pends m (inner m b y) e).0);
+        calls = λ m i. grew_bound F w G g (call m) (entered P m.from) (v.calls m i) (λ e. fires (call m) e m i refl);
+        begins = λ m i. grew_bound F w G g (begin m) (one_if m.from 1 + P (call m)) (v.begins m i) (λ e. fires (begin m) e m i refl);
+        puts = λ m a i x. grew_bound F w G g (Put (no m.from) a) (P (begin m)) (v.puts m a i x) (λ e. fires (Put (no m.from) a) e m i x refl);
+        exits = λ m i. grew_bound F w G g (exit m) (P (begin m)) (v.exits m i) (λ e. fires (exit m) e m i refl refl);
+        backs = λ l i. grew_bound F w G g (back l.from) (left P l.from) (v.backs l i) (λ e. fires (back l.from) e l i refl);
+        gates = λ l i. grew_bound F w G g (row l.from) (one_if l.from 1 + P (back l.from)) (v.gates l i) (λ e. fires (row l.from) e l i refl);
+        gives = λ a o. grew_bound F w G g (Give a) (given_by P a) (v.gives a o) (λ e. fires (Give a) e o);
+      }
+
+      pub front_fired : (here : ℕ) (came : ℕ → ℕ) (G : Wire → ℕ) → Front D here came F P → Grew F w G → Front D here came G P
+      front_fired here came G v g = record {
+        told = v.told;
+        ahead = v.ahead;
+        behind = λ l i. grew_bound F w G g (cross l) (D l) (v.behind l i) (λ e. (pends l i e).2);
+      }
 
     module _ (D : Leg → ℕ) (here : ℕ) (came : ℕ → ℕ) (F P : Wire → ℕ) (s : Stands L D here came) (t : Ties D came F P) (f : Flows F P) (v : Lines F P) (k : Front D here came F P) where
       pub given : (w : Wire) → P w ≤ F w
@@ -349,11 +349,11 @@ module _ (L : List Leg) (out : ℕ → Bool) (key : Leg → ℕ) (home no wait :
 
       input_here : (l : Leg) → Among L l → comes_here l ≡ true → Inputs l × (l.to ≡ here)
       input_here l a h =
-          let (x, y) = and_two (not (is_act l)) (to_at here l) h in
-          ((a, not_true (is_act l) (sym x)), sym (eqb-true here l.to y))
+          let (x, y) = and_both (not (is_act l)) (to_at here l) h in
+          ((a, was_not (is_act l) x), sym (eqb-true here l.to y))
 
       here_input : (l : Leg) → Inputs l → l.to ≡ here → comes_here l ≡ true
-      here_input l i e = two_and (not (is_act l)) (to_at here l) (ap not i.1) (eq-eqb here l.to (sym e))
+      here_input l i e = both_and (not (is_act l)) (to_at here l) (ap not i.1) (eq-eqb here l.to (sym e))
 
       lag_of : (l : Leg) → Inputs l → l.to ≡ here → F (cross l) < D l → Lags
       lag_of l i to less = record {
@@ -477,10 +477,10 @@ module _ (L : List Leg) (out : ℕ → Bool) (key : Leg → ℕ) (home no wait :
       act_here = elim (cases_lt 0 (sum_where L test (λ l. 1))) [
         | inl some ↦
             let (m, a, x, y) = sum_some L test (λ l. 0) (λ l. 1) (omega (arith, some, sum_low L test (λ l. 0) (λ l a x. refl))) in
-            let (p, q) = and_two (is_act m) (from_at here m) x in
+            let (p, q) = and_both (is_act m) (from_at here m) x in
             inl (m, (a, p), sym (eqb-true here m.from q))
         | inr none ↦ inr (λ m i e.
-            let x : test m ≡ true = two_and (is_act m) (from_at here m) i.1 (eq-eqb here m.from (sym e)) in
+            let x : test m ≡ true = both_and (is_act m) (from_at here m) i.1 (eq-eqb here m.from (sym e)) in
             omega (arith, none, sum_gap L test (λ l. 0) (λ l. 1) (λ l a y. omega arith) m i.0 x, sum_low L test (λ l. 0) (λ l a x. refl)))
       ]
         where
@@ -490,13 +490,19 @@ module _ (L : List Leg) (out : ℕ → Bool) (key : Leg → ℕ) (home no wait :
       -- where none lags, the token is here, or where the act from here leads
       rows_steady : Steady → (token : ℕ) × Rows token
       rows_steady y = elim act_here [
-        | inl (n, j, from) ↦ (n.to, λ l i.
-            let none : one_if l.from here ≡ 0 = one_other l.from here (λ e. apart n l j i (from ∙ sym e)) in
-            omega (arith, begun_low l i, s.flow l.from, crossed_steady l i y, none, ahead n j from l i))
-        | inr none ↦ (here, λ l i.
-            let zero : sum_where L (to_at l.from) (λ m. one_if m.from here) ≡ 0 = sum_low L (to_at l.from) (λ m. one_if m.from here)
-            (λ m a x. one_other m.from here (none m (leaves l m i a (sym (eqb-true l.from m.to x))))) in
-            omega (arith, begun_low l i, s.flow l.from, crossed_steady l i y, zero))
+        | inl (n, j, from) ↦ (
+          n.to,
+          λ l i.
+              let none : one_if l.from here ≡ 0 = one_other l.from here (λ e. apart n l j i (from ∙ sym e)) in
+              omega (arith, begun_low l i, s.flow l.from, crossed_steady l i y, none, ahead n j from l i),
+        )
+        | inr none ↦ (
+          here,
+          λ l i.
+              let zero : sum_where L (to_at l.from) (λ m. one_if m.from here) ≡ 0 = sum_low L (to_at l.from) (λ m. one_if m.from here)
+              (λ m a x. one_other m.from here (none m (leaves l m i a (sym (eqb-true l.from m.to x))))) in
+              omega (arith, begun_low l i, s.flow l.from, crossed_steady l i y, zero),
+        )
       ]
         where
           ahead : (n : Leg) → Acts n → n.from ≡ here → (l : Leg) → Inputs l → sum_where L (to_at l.from) (λ m. one_if m.from here) ≤ one_if l.from n.to
@@ -507,9 +513,12 @@ module _ (L : List Leg) (out : ℕ → Bool) (key : Leg → ℕ) (home no wait :
               sum_one L (to_at l.from) (λ m. one_if m.from here) one.chart.increase (λ m a. small m.from here)
                   (λ m q a b x z p r. let g : Acts m = leaves l m i a (sym (eqb-true l.from m.to x)) in one.chart.lone q m (leaves l q i b (sym (eqb-true l.from q.to z))).0 a (leaves l q i b (sym (eqb-true l.from q.to z))).1 (stands m p ∙ sym (stands q r))),
             )
-            | inr e ↦ omega (arith, sum_low L (to_at l.from) (λ m. one_if m.from here) (λ m a x. one_other m.from here (λ z.
-                let same : m ≡ n = one.chart.lone n m j.0 a j.1 (z ∙ sym from) in
-                e.0 (eqb-true l.from m.to x ∙ ap (λ (q : Leg). q.to) same))))
+            | inr e ↦ omega (
+              arith,
+              sum_low L (to_at l.from) (λ m. one_if m.from here) (λ m a x. one_other m.from here (λ z.
+                  let same : m ≡ n = one.chart.lone n m j.0 a j.1 (z ∙ sym from) in
+                  e.0 (eqb-true l.from m.to x ∙ ap (λ (q : Leg). q.to) same))),
+            )
           ]
             where
               stands : (m : Leg) → 0 < one_if m.from here → m.from ≡ here
@@ -547,11 +556,14 @@ module _ (L : List Leg) (out : ℕ → Bool) (key : Leg → ℕ) (home no wait :
           crossed_here : sum_where L (from_at l.from) D ≤ crossed F l.from + one_if l.from z.leg.from
           crossed_here = elim (one_at l.from z.leg.from) [
             | inl e ↦ omega (arith, e.1, sum_late L one.chart.increase (from_at l.from) (λ l. F (cross l)) D z.leg (λ n a x. z.most n (input n a x)))
-            | inr e ↦ omega (arith, sum_le L (from_at l.from) D (λ l. F (cross l)) (λ n a x. omega (
+            | inr e ↦ omega (
               arith,
-              z.most n (input n a x),
-              one_other n.place z.leg.place (λ q. e.0 (eqb-true l.from n.from x ∙ ap (λ (y : Leg). y.from) (place_one L one.chart.increase n z.leg a z.inputs.0 q))),
-            )))
+              sum_le L (from_at l.from) D (λ l. F (cross l)) (λ n a x. omega (
+                arith,
+                z.most n (input n a x),
+                one_other n.place z.leg.place (λ q. e.0 (eqb-true l.from n.from x ∙ ap (λ (y : Leg). y.from) (place_one L one.chart.increase n z.leg a z.inputs.0 q))),
+              )),
+            )
           ]
 
       -- the token is at one row, and where a crossing lags, at its
@@ -702,61 +714,29 @@ module _ (L : List Leg) (out : ℕ → Bool) (key : Leg → ℕ) (home no wait :
 
       -- ---- what is given
 
-      put_low : (a : ℕ) → out a ≡ true → (m : Leg) → Among L m → in_leg a m ≡ true → F (Put (no m.from) a) ≤ D m + one_if m.from here
-      put_low a o m i h = let j : Acts m = acts_with m a i o h in omega (arith, chain m a j h)
-
-      here_once : (a : ℕ) → out a ≡ true → sum_where L (in_leg a) (λ m. one_if m.from here) ≤ 1
-      here_once a o = sum_one L (in_leg a) (λ m. one_if m.from here) one.chart.increase (λ m i. small m.from here)
-          (λ l m i j h x p q. elim (one_at l.from here) [
-            | inl e ↦ elim (one_at m.from here) [
-              | inl z ↦ let y : Acts m = acts_with m a j o x in one.chart.lone m l j i y.1 (e.0 ∙ sym z.0)
-              | inr z ↦ absurd (omega (arith, z.1, q))
-            ]
-            | inr e ↦ absurd (omega (arith, e.1, p))
-          ])
+      gives : Gives L out D here came (λ m a. F (Put (no m.from) a)) (λ m a. P (Put (no m.from) a)) (λ a. F (Give a)) (λ a. P (Give a))
+      gives = record {
+        told = λ m a i e h. k.told m a (i, e) h;
+        handed = λ m a. given (Put (no m.from) a);
+        low = λ m a i e h. omega (arith, chain m a (i, e) h);
+        shown = v.gives;
+        gave = t.gave;
+        sent = λ a. given (Give a);
+      }
 
       pub given_chain : (a : ℕ) → out a ≡ true
           → (sum_where L (in_leg a) D ≤ given_by P a) × (given_by P a ≤ given_by F a) × (given_by F a ≤ suc (sum_where L (in_leg a) D))
           × (F (Give a) ≤ given_by P a) × (P (Give a) ≡ sum_where L (in_leg a) D + came a) × (P (Give a) ≤ F (Give a))
-      given_chain a o = (
-        sum_le L (in_leg a) D (λ m. P (Put (no m.from) a)) (λ m i h. k.told m a (acts_with m a i o h) h),
-        sum_le L (in_leg a) (λ m. P (Put (no m.from) a)) (λ m. F (Put (no m.from) a)) (λ m i h. given (Put (no m.from) a)),
-        omega (arith, sum_le L (in_leg a) (λ m. F (Put (no m.from) a)) (λ m. D m + one_if m.from here) (put_low a o), sum_plus L (in_leg a) D (λ m. one_if m.from here), here_once a o),
-        v.gives a o,
-        t.gave a o,
-        given (Give a),
-      )
+      given_chain a o = given_from L out one.chart D here came (λ m a. F (Put (no m.from) a)) (λ m a. P (Put (no m.from) a)) (λ a. F (Give a)) (λ a. P (Give a)) gives a o
 
       pub put_lands : (m : Leg) (a : ℕ) → Acts m → Has m a → F (Put (no m.from) a) ≡ suc (P (Put (no m.from) a)) → given_by P a ≡ F (Give a)
-      put_lands m a j h x =
-          omega (
-            arith,
-            given_chain a (act_has m a j h),
-            sum_gap L (in_leg a) (λ m. P (Put (no m.from) a)) (λ m. F (Put (no m.from) a)) (λ m i h. given (Put (no m.from) a)) m j.0 h,
-          )
+      put_lands m a j h x = given_lands L out one.chart D here came (λ m a. F (Put (no m.from) a)) (λ m a. P (Put (no m.from) a)) (λ a. F (Give a)) (λ a. P (Give a)) gives m a j.0 (act_has m a j h) h x
 
       pub give_free : (a : ℕ) → out a ≡ true → F (Give a) < given_by P a → F (Give a) ≡ P (Give a)
-      give_free a o less = omega (arith, given_chain a o, less)
+      give_free a o less = given_free L out one.chart D here came (λ m a. F (Put (no m.from) a)) (λ m a. P (Put (no m.from) a)) (λ a. F (Give a)) (λ a. P (Give a)) gives a o less
 
-      -- the act from here has put more than the environment has come to
-      pub record Shown (a : ℕ) : Type 0 where
-        pub act : Leg
-        pub acts : Acts act
-        pub has : Has act a
-        pub from : act.from ≡ here
-        pub none : came a ≡ 0
-        pub more : D act < P (Put (no act.from) a)
+      abbrev pub Shown : ℕ → Type 0
+      Shown a = ShownBy L D here came (λ m a. P (Put (no m.from) a)) a
 
       pub give_lands : (a : ℕ) → out a ≡ true → F (Give a) ≡ suc (P (Give a)) → Shown a
-      give_lands a o x =
-          let c = given_chain a o in
-          let (m, i, h, less) = sum_some L (in_leg a) D (λ m. P (Put (no m.from) a)) (omega (arith, c, x)) in
-          let j : Acts m = acts_with m a i o h in
-          record {
-            act = m;
-            acts = j;
-            has = h;
-            from = elim (one_at m.from here) [ inl e ↦ e.0 | inr e ↦ absurd (omega (arith, e.1, less, chain m a j h)) ];
-            none = omega (arith, c, x);
-            more = less;
-          }
+      give_lands a o x = shown_lands L out one.chart D here came (λ m a. F (Put (no m.from) a)) (λ m a. P (Put (no m.from) a)) (λ a. F (Give a)) (λ a. P (Give a)) gives a o x

@@ -1,23 +1,21 @@
 -- The network of a process by a token shows each trace: where nothing is under way, each symbol that may be given is served by at most nine wires.
-use Rattle.std.proofs.Common.{eq-eqb, eqb-true, ◌≡◌, ◌⊎◌, inl, inr, ℕ, suc, ◌+◌, ◌<◌, Bool, true, false, List, [], ◌∷◌, ◌++◌, map, refl, sym, ap, ◌∙◌, subst, arith, if◌then◌else◌}
+use Rattle.std.proofs.Common.{eq-eqb, eqb-true, ◌≡◌, ◌⊎◌, inl, inr, ℕ, suc, ◌+◌, ◌<◌, Bool, true, List, [], ◌++◌, map, refl, sym, ap, subst, arith}
 use Rattle.std.proofs.Math.Path.{fun_ext}
 use Rattle.std.proofs.lemmas.Bool.{cases_lt}
 use Rattle.cmd_tree.specs.Rounds.{tally, naught}
 use Rattle.place_graph.specs.declared.leg.Leg.{Leg}
-use Rattle.place_graph.specs.declared.wait_graph.Cross.{Cross as Crossing}
 use Rattle.place_graph.specs.Tale.{one_if, times}
 use Rattle.place_graph.specs.Chart.{Has, Plays, Grows, Stands, sum_where, to_at, from_at, in_leg, done}
 use Rattle.net_laws.proofs.Webs.{Web, WebExact}
 use Rattle.net_laws.proofs.Told.{Lawful, sent, got, Flows, Went, Leads, pulls, ends, web_exact}
 use Rattle.net_laws.proofs.Woven.{Grew, grew_le, grew_same, grew_other, grew_unique, sent_grew, got_grew, got_same, sent_same}
-use Rattle.net_laws.proofs.Among.{Among}
 use Rattle.net_laws.proofs.Rows.{among_left, among_right}
-use Rattle.plain_split.proofs.OneWaitSums.{sum_gap, sum_some}
+use Rattle.plain_split.proofs.OneWaitSums.{one_at, sum_gap, sum_some}
 use Rattle.plain_split.proofs.OneWaitWeb.{sum_of}
-use Rattle.plain_split.proofs.OneWaitCounts.{one_at, some_symbol}
+use Rattle.plain_split.proofs.OneWaitCounts.{some_symbol}
 use Rattle.plain_split.proofs.OneWaitTraces.{among_map, map_among}
-use Rattle.token_split.specs.TokenChart.{Wire, Take, Burst, Return, Row, Cross, Call, Begin, Put, Exit, Give, Name, Env, Join, Meet, Calls, Gate, Spread, Returns, Entry, Links, same_wire, cross_wire}
-use Rattle.token_split.proofs.TokenWeb.{Rule, of_row, of_column, web, lawful}
+use Rattle.token_split.specs.TokenChart.{Wire, Take, Burst, Return, Row, Cross, Call, Begin, Put, Exit, Give, Name, Env, Join, Calls, Gate, Spread, Returns, Entry, Links, same_wire, cross_wire}
+use Rattle.token_split.proofs.TokenWeb.{Rule, of_column, web, lawful}
 use Rattle.token_split.proofs.TokenRules.{gate_may, join_may, fork_may}
 use Rattle.token_split.proofs.TokenCounts.{Numbered, Acts, Inputs, entered, crossed, met, left, given_by, Ties, enters, leaves, from_wait, input_has, inputs_with, act_has, acts_with, met_same, take_is, chain, round, given_chain}
 use Rattle.token_split.proofs.TokenTraces.{Drawn, crossing, Held, Real, ties_of, entered_is, left_is, given_is, at_home, at_part, row_total, column_total, story_grows, fresh, tends}

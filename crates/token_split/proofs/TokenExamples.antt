@@ -1,10 +1,8 @@
 -- Networks that are known from elsewhere, by reckoning: the wires of each component, and what it is.
-use Rattle.std.proofs.Common.{◌≡◌, ℕ, List, [], ◌∷◌, ◌++◌, map, refl}
+use Rattle.std.proofs.Common.{◌≡◌, ℕ, List, [], ◌∷◌, map, refl}
 use Rattle.std.specs.Prelude.{Some, None, drop}
 use native.Mathlib.Decide.{ℕ_discrete}
-use Rattle.cmd_tree.specs.declared.tree.Mark.{Mark}
 use Rattle.cmd_tree.specs.declared.tree.Proc.{Proc}
-use Rattle.cmd_tree.specs.Tree.{TSeq, TBurst, Done, Then}
 use Rattle.cmd_tree.specs.Marks.{input, output}
 use Rattle.basic_kinds.specs.declared.kind.Kind.TheVariants as kind
 use Rattle.net_core.specs.declared.spec.NodeSpec.{NodeSpec}

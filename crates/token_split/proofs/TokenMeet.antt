@@ -1,5 +1,5 @@
 -- The part of the crossings by its wires: a DW of a shape, or a C.
-use Rattle.std.proofs.Common.{◌≡◌, ◌↔◌, inl, inr, ℕ, zero, suc, ◌+◌, ◌-◌, ◌<◌, ◌≤◌, Bool, true, false, true≢false, cond, filter, nat_eq, List, [], ◌∷◌, ◌++◌, length, map, get_or, refl, sym, ap, ◌∙◌, subst, arith, if◌then◌else◌, eq-eqb, eqb-true, ne_eqb, length-append}
+use Rattle.std.proofs.Common.{◌≡◌, ◌↔◌, inl, inr, ℕ, zero, suc, ◌+◌, ◌-◌, ◌<◌, Bool, true, false, true≢false, cond, filter, nat_eq, List, [], ◌∷◌, ◌++◌, length, map, get_or, refl, sym, ap, ◌∙◌, subst, arith, if◌then◌else◌, eq-eqb, ne_eqb, length-append}
 use Rattle.std.proofs.lemmas.Bool.{cases_eq}
 use Rattle.std.proofs.lemmas.List.{get_or_append_left, get_or-append_right, get_or-map}
 use Rattle.cmd_tree.specs.Rounds.{tally, naught, Follows}
@@ -15,14 +15,10 @@ use Rattle.net_laws.proofs.Among.{Among, Distinct, among_at, at_among, distinct_
 use Rattle.net_laws.proofs.Rules.{RoundsOn, rounds_spec}
 use Rattle.net_laws.proofs.KindRules.{KindOn, kind_spec}
 use Rattle.plain_split.proofs.OneWaitWeb.{sum_of}
+use Rattle.plain_split.proofs.OneWaitWires.{total_first}
 use Rattle.plain_split.proofs.OneWaitChart.{as_long, join_traces}
-use Rattle.token_split.specs.TokenChart.{Wire, Burst, Row, Cross, same_wire, cross_wire}
+use Rattle.token_split.specs.TokenChart.{Wire, Burst, Row, same_wire, cross_wire}
 use Rattle.token_split.proofs.TokenWeb.{wires_decide, of_row, of_column, Crosses as Meets, RowOn, ColumnOn, CrossOn, MeetOn}
-
-total_first : (k : ℕ) (u : ℕ → ℕ) → total (suc k) u ≡ u 0 + total k (λ i. u (suc i))
-unfolding total
-total_first zero u = omega arith
-total_first (suc k) u = omega (arith, total_first k u)
 
 total_empty : (u : ℕ → ℕ) → total 0 u ≡ 0
 unfolding total

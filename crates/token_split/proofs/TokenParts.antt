@@ -1,5 +1,5 @@
 -- A part of the crossings of a network by a token: its kind, and what its traces are.
-use Rattle.std.proofs.Common.{◌≡◌, ◌↔◌, inl, inr, ℕ, zero, suc, ◌+◌, ◌<◌, ◌≤◌, ◌^◌, Bool, true, false, true≢false, nat_lt, ◌&&◌, List, [], ◌∷◌, ◌++◌, length, map, get_or, refl, sym, ap, ◌∙◌, subst, arith, IsTrue, lt-ltb}
+use Rattle.std.proofs.Common.{◌≡◌, ◌↔◌, inl, inr, ℕ, zero, suc, ◌+◌, ◌<◌, ◌^◌, Bool, true, false, true≢false, nat_lt, ◌&&◌, List, [], ◌∷◌, length, map, get_or, refl, sym, ap, ◌∙◌, subst, arith, lt-ltb}
 use Rattle.std.specs.List.{list_all}
 use Rattle.std.proofs.lemmas.List.{get_or-map}
 use Rattle.cmd_tree.specs.Rounds.{tally, naught, Follows}
@@ -9,7 +9,7 @@ use Rattle.basic_kinds.specs.declared.shape.Shape.{Shape}
 use Rattle.basic_kinds.specs.Shapes.{is_rising, is_within, IsShape, IsShape-prop}
 use Rattle.basic_kinds.specs.ShapeParts.{has_row, has_column, local_part, local_crossing}
 use Rattle.basic_kinds.specs.Sorts.{how_many_below}
-use Rattle.basic_kinds.specs.Kinds.{inputs_of, outputs_of, IsWellFormed}
+use Rattle.basic_kinds.specs.Kinds.{IsWellFormed}
 use Rattle.place_graph.specs.declared.wait_graph.Cross.{Cross as Crossing}
 use Rattle.net_core.specs.declared.spec.NodeSpec.TheVariants.{Kind as Basic}
 use Rattle.net_core.specs.Specs.{May, IsFormed, outs_of, sides}
@@ -103,7 +103,7 @@ single rows columns k h = (
 abbrev pub kind_of : List ℕ → List ℕ → List Crossing → Kind
 kind_of rows columns cs = part_kind (length rows) (length columns) (local_of cs)
 
-no_crossing : (rows columns : List ℕ) → IsPart rows columns [] → ⊥
+pub no_crossing : (rows columns : List ℕ) → IsPart rows columns [] → ⊥
 no_crossing rows columns h = true≢false (sym (h.shape.each_row 0 h.shape.some_row))
 
 pub part_may : (rows columns : List ℕ) (cs : List Crossing) (z : Wire) → IsPart rows columns cs → Distinct (meet_ports rows columns cs) → (Among z (meet_ports rows columns cs) → ⊥) → (t : List ℕ)

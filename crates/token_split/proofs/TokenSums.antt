@@ -1,5 +1,5 @@
 -- Sums over legs of which one, or two, terms differ.
-use Rattle.std.proofs.Common.{◌≡◌, ◌⊎◌, inl, inr, ⊎_elim, ℕ, suc, ◌+◌, ◌<◌, ◌≤◌, Bool, true, false, true≢false, List, [], ◌∷◌, refl, sym, ap, ◌∙◌, arith}
+use Rattle.std.proofs.Common.{◌≡◌, ◌⊎◌, inl, inr, ℕ, suc, ◌+◌, ◌<◌, ◌≤◌, Bool, true, false, true≢false, List, [], ◌∷◌, refl, sym, ap, ◌∙◌, arith}
 use Rattle.std.proofs.lemmas.Bool.{cases_lt}
 use Rattle.place_graph.specs.declared.leg.Leg.{Leg}
 use Rattle.place_graph.specs.Points.{Among}
@@ -7,8 +7,7 @@ use Rattle.place_graph.specs.Tale.{one_if}
 use Rattle.place_graph.specs.Chart.{Increase, sum_where}
 use Rattle.place_graph.proofs.Sums.{sum_plus, sum_none, one_same}
 use Rattle.net_laws.proofs.Woven.{Grew}
-use Rattle.plain_split.proofs.OneWaitSums.{when, sum_le, sum_gap, sum_some, sum_one}
-use Rattle.plain_split.proofs.OneWaitCounts.{one_at}
+use Rattle.plain_split.proofs.OneWaitSums.{one_at, when, sum_le, sum_gap, sum_some, sum_one}
 use Rattle.plain_split.proofs.OneWaitTraces.{place_one}
 
 when_low : (b : Bool) (m n : ℕ) → (b ≡ true → m ≤ n) → when b m ≤ when b n

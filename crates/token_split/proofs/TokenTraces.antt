@@ -1,5 +1,5 @@
 -- The network of a process by a token has no hazard: its web keeps the counts beside the story of the environment.
-use Rattle.std.proofs.Common.{eq-eqb, eqb-true, ◌≡◌, ◌⊎◌, inl, inr, ℕ, suc, ◌+◌, ◌<◌, ◌≤◌, nat_eq, Bool, true, false, true≢false, filter, List, [], ◌∷◌, ◌++◌, map, refl, sym, ap, ◌∙◌, subst, arith, if◌then◌else◌}
+use Rattle.std.proofs.Common.{eqb-true, ◌≡◌, ◌⊎◌, inl, inr, ℕ, suc, ◌+◌, ◌<◌, ◌≤◌, nat_eq, Bool, true, false, true≢false, filter, List, [], ◌∷◌, ◌++◌, map, refl, sym, ap, ◌∙◌, subst, arith, if◌then◌else◌}
 use Rattle.std.proofs.Math.Path.{fun_ext}
 use Rattle.cmd_tree.specs.Meaning.{symbols}
 use Rattle.cmd_tree.specs.Rounds.{tally, naught}
@@ -14,15 +14,15 @@ use Rattle.net_laws.proofs.Webs.{Web, WebSound}
 use Rattle.net_laws.proofs.Told.{Lawful, sent, got, Flows, Longer, longer_at, longer_away, Tends, web_sound}
 use Rattle.net_laws.proofs.Woven.{grew_le, sent_grew, got_grew, got_same, sent_same}
 use Rattle.net_laws.proofs.Among.{Among}
-use Rattle.net_laws.proofs.Rows.{among_left, among_right, among_either}
+use Rattle.net_laws.proofs.Rows.{among_right, among_either}
 use Rattle.plain_split.proofs.OneWaitSums.{sum_le}
 use Rattle.plain_split.proofs.OneWaitWeb.{sum_of, MergeOn}
 use Rattle.plain_split.proofs.OneWaitCounts.{some_symbol}
 use Rattle.plain_split.proofs.OneWaitTraces.{among_map, map_among, sum_of_map, sum_of_some, place_one, done_one, times_one}
 use Rattle.token_split.specs.TokenChart.{Wire, Take, Burst, Return, Row, Cross, Call, Begin, Put, Exit, Give, Name, Env, Join, Meet, Calls, Gate, Spread, Returns, Entry, Shows, Links, same_wire, driver, receiver, cross_wire}
-use Rattle.token_split.proofs.TokenWeb.{MeetOn, RowOn, ColumnOn, CrossOn, Crosses, of_row, of_column, word, Rule, web, lawful}
-use Rattle.token_split.proofs.TokenRules.{gate_out, gate_in, gate_some, join_out, join_in, join_some, join_taken, fork_out, fork_in, fork_some, take_end, give_end, word_takes, word_gives}
-use Rattle.token_split.proofs.TokenCounts.{Numbered, Acts, Inputs, bur, cross, back, row, call, begin, exit, entered, crossed, met, left, given_by, Lines, Front, Ties, Guard, lines_more, front_more, lines_fired, front_fired, next_act, next_wait, leaves, from_wait, apart, act_has, input_has, inputs_with, one_burst, one_key, one_leg, same_burst, one_cross, given, Lags, pending, meets, Stand, stand, row_token, take_free, take_lands, burst_free, burst_lands, columns_even, rows_even, one_lag, cross_free, cross_lands, call_free, call_lands, begin_free, begin_lands, begin_exits, put_free, put_lands, exit_free, exit_lands, back_free, back_lands, row_free, give_free, Shown, give_lands}
+use Rattle.token_split.proofs.TokenWeb.{MeetOn, Crosses, of_row, of_column, word, Rule, web, lawful}
+use Rattle.token_split.proofs.TokenRules.{gate_out, gate_in, gate_some, join_out, join_in, join_some, fork_out, fork_in, take_end, give_end, word_takes, word_gives}
+use Rattle.token_split.proofs.TokenCounts.{Numbered, Acts, Inputs, bur, cross, back, row, call, begin, exit, entered, crossed, met, left, given_by, Lines, Front, Ties, Pends, Fires, lines_more, front_more, lines_fired, front_fired, next_act, next_wait, apart, act_has, input_has, inputs_with, one_burst, one_key, one_leg, one_cross, given, meets, take_free, take_lands, burst_free, columns_even, rows_even, cross_free, cross_lands, call_free, call_lands, begin_free, begin_lands, begin_exits, put_free, put_lands, exit_free, exit_lands, back_free, back_lands, row_free, give_free, Shown, give_lands}
 
 -- The links are those of the legs.
 pub record Drawn (L : List Leg) (out : ℕ → Bool) (g : Links) (key : Leg → ℕ) (home no wait : ℕ → ℕ) : Type 0 where
@@ -225,15 +225,15 @@ module _ (L : List Leg) (out : ℕ → Bool) (T : List ℕ → Type 0) (g : Link
   Lands t w = Rule g out T (receiver g w) (t (receiver g w)) w
 
   pub inner_sent : (t : Name → List Wire) (w : Wire) (u : Name → List Wire) → (i : Held t) → (Env ≡ driver g w → ⊥)
-      → Guard L out key home no wait (done i.tale.past) (sent net t) (got net t) w → Longer Name Wire t (driver g w) w u → Held u
+      → Fires L out key home no wait (done i.tale.past) (sent net t) (got net t) w → Longer Name Wire t (driver g w) w u → Held u
   inner_sent t w u i away k h = record {
     story = i.story;
     tale = i.tale;
     is = ap (word out) (longer_away t (driver g w) w u h Env away) ∙ i.is;
     lines = lines_more L out key home no wait (sent net u) (got net t) (got net u)
-        (lines_fired L out key home no wait one (done i.tale.past) (sent net t) (got net t) w (sent net u) i.lines k (sent_grew Name Wire net fine t w u h)) (λ v. omega (arith, got_same Name Wire net fine t w u h v));
+        (lines_fired L out key home no wait one (done i.tale.past) (sent net t) (got net t) w k (sent net u) i.lines (sent_grew Name Wire net fine t w u h)) (λ v. omega (arith, got_same Name Wire net fine t w u h v));
     front = front_more L out key home no wait (done i.tale.past) i.tale.here (λ a. times a i.tale.came) (sent net u) (got net t) (got net u)
-        (front_fired L out key home no wait one (done i.tale.past) i.tale.here (λ a. times a i.tale.came) (sent net t) (got net t) w (sent net u) i.front k (sent_grew Name Wire net fine t w u h))
+        (front_fired L out key home no wait one (done i.tale.past) (sent net t) (got net t) w k i.tale.here (λ a. times a i.tale.came) (sent net u) i.front (sent_grew Name Wire net fine t w u h))
         (λ v. omega (arith, got_same Name Wire net fine t w u h v));
   }
 
@@ -326,21 +326,7 @@ module _ (L : List Leg) (out : ℕ → Bool) (T : List ℕ → Type 0) (g : Link
     send_burst l j r = (
       (l, j, refl),
       burst_free L out key home no wait one D here came F P st ties f i.lines i.front l j (burst_ready l j r),
-      λ u h. inner_sent t (bur_of l) u i (λ e. cc) (record {
-        bursts = λ m a k x e.
-            let same : key m ≡ key l = cc in
-            omega (arith, burst_ready l j r a (one_key L out key home no wait one m l a k j same x), ap (λ b. F (Burst b)) same);
-        columns = λ l k a i j h x e. absurd (cc);
-        rows = λ l k i j z e. absurd (cc);
-        calls = λ m k e. absurd (cc);
-        begins = λ m k e. absurd (cc);
-        puts = λ m a k x e. absurd (cc);
-        exits = λ m k e. absurd (cc);
-        backs = λ l k e. absurd (cc);
-        gates = λ l k e. absurd (cc);
-        gives = λ a o e. absurd (cc);
-        behind = λ l k e. absurd (cc);
-      }) h,
+      λ u h. inner_sent t (bur_of l) u i (λ e. cc) (λ m a k x same. omega (arith, burst_ready l j r a (one_key L out key home no wait one m l a k j same x))) h,
     )
 
     -- a crossing that may come is that of the leg that lags
@@ -354,7 +340,7 @@ module _ (L : List Leg) (out : ℕ → Bool) (T : List ℕ → Type 0) (g : Link
         let b : key l ≡ z.crossing.burst = cc in
         let p : ℕ = g.row_part (wait l.from) in (
           (let less : of_row (g.meets p) (at_part t p) (wait l.from) < at_part t p (row_of l.from) = subst (λ y. of_row (g.meets p) (at_part t p) y < at_part t p (Row y)) (sym x) z.row in
-          omega (arith, less, row_total t l j)),
+              omega (arith, less, row_total t l j)),
           λ a h.
               let less : of_column (g.meets p) (at_part t p) (key l) < at_part t p (bur_of l) = subst (λ y. of_column (g.meets p) (at_part t p) y < at_part t p (Burst y)) (sym b) z.column in
               let there : of_column (g.meets (g.column_part (key l))) (at_part t (g.column_part (key l))) (key l) < at_part t (g.column_part (key l)) (bur_of l)
@@ -376,27 +362,9 @@ module _ (L : List Leg) (out : ℕ → Bool) (T : List ℕ → Type 0) (g : Link
     send_cross l j r = (
       (l, j, refl),
       cross_free L out key home no wait one D here came F P st ties f i.lines i.front l j (cross_lags l j r).0 (cross_lags l j r).1,
-      λ u h. inner_sent t (cross_of l) u i (λ e. cc) (record {
-        bursts = λ m a k x e. absurd (cc);
-        columns = λ m k a x y p q e.
-            let same : k ≡ l = one_cross L out key home no wait one k l y j e in
-            let own : Has l a = subst (λ n. Has n a) same q in
-            omega (arith, (cross_ready l j r).1 a own, ap (λ b. P (Burst b)) (one_burst L out key home no wait one m l a x j p own));
-        rows = λ m k x y z e.
-            let same : k ≡ l = one_cross L out key home no wait one k l y j e in
-            let is : m.from ≡ l.from = sym z ∙ ap (λ (n : Leg). n.from) same in
-            subst (λ x. crossed L out key home no wait F x < P (row_of x)) (sym is) (cross_ready l j r).0;
-        calls = λ m k e. absurd (cc);
-        begins = λ m k e. absurd (cc);
-        puts = λ m a k x e. absurd (cc);
-        exits = λ m k e. absurd (cc);
-        backs = λ l k e. absurd (cc);
-        gates = λ l k e. absurd (cc);
-        gives = λ a o e. absurd (cc);
-        behind = λ k y e.
-            let same : k ≡ l = one_cross L out key home no wait one k l y j e in
-            subst (λ (y : Leg). F (cross_of y) < D y) (sym same) (cross_lags l j r).0;
-      }) h,
+      λ u h. inner_sent t (cross_of l) u i (λ e. cc) (λ k q e.
+          let same : l ≡ k = one_cross L out key home no wait one l k j q (sym e) in
+          subst (λ k. Pends L out key home no wait D F P k) same ((cross_ready l j r).0, (cross_ready l j r).1, (cross_lags l j r).0)) h,
     )
 
     call_ready : (m : Leg) → Act m → Allowed t (call_of m) → F (call_of m) < entered L out key home no wait P m.from
@@ -407,20 +375,9 @@ module _ (L : List Leg) (out : ℕ → Bool) (T : List ℕ → Type 0) (g : Link
     send_call m l j k to r = (
       (l, k, to),
       call_free L out key home no wait one D here came F P st ties f i.lines i.front m j (call_ready m j r),
-      λ u h. inner_sent t (call_of m) u i (λ e. cc) (record {
-        bursts = λ m a k x e. absurd (cc);
-        columns = λ l k a i j h x e. absurd (cc);
-        rows = λ l k i j z e. absurd (cc);
-        calls = λ n k e. let same : n ≡ m = one.one_no n m k.0 j.0 k.1 j.1 (cc) in
-            subst (λ n. F (call_of n) < entered L out key home no wait P n.from) (sym same) (call_ready m j r);
-        begins = λ m k e. absurd (cc);
-        puts = λ m a k x e. absurd (cc);
-        exits = λ m k e. absurd (cc);
-        backs = λ l k e. absurd (cc);
-        gates = λ l k e. absurd (cc);
-        gives = λ a o e. absurd (cc);
-        behind = λ l k e. absurd (cc);
-      }) h,
+      λ u h. inner_sent t (call_of m) u i (λ e. cc) (λ n k e.
+          let same : m ≡ n = one.one_no m n j.0 k.0 j.1 k.1 (sym e) in
+          omega (arith, call_ready m j r, ap (λ (y : Leg). entered L out key home no wait P y.from) same)) h,
     )
 
     begin_ready : (m : Leg) → Act m → Allowed t (begin_of m) → F (begin_of m) < one_if m.from 1 + P (call_of m)
@@ -431,20 +388,9 @@ module _ (L : List Leg) (out : ℕ → Bool) (T : List ℕ → Type 0) (g : Link
     send_begin m j r = (
       (m, j, refl),
       begin_free L out key home no wait one D here came F P st ties f i.lines i.front m j (begin_ready m j r),
-      λ u h. inner_sent t (begin_of m) u i (λ e. cc) (record {
-        bursts = λ m a k x e. absurd (cc);
-        columns = λ l k a i j h x e. absurd (cc);
-        rows = λ l k i j z e. absurd (cc);
-        calls = λ m k e. absurd (cc);
-        begins = λ n k e. let same : n ≡ m = one.one_no n m k.0 j.0 k.1 j.1 (cc) in
-            subst (λ n. F (begin_of n) < one_if n.from 1 + P (call_of n)) (sym same) (begin_ready m j r);
-        puts = λ m a k x e. absurd (cc);
-        exits = λ m k e. absurd (cc);
-        backs = λ l k e. absurd (cc);
-        gates = λ l k e. absurd (cc);
-        gives = λ a o e. absurd (cc);
-        behind = λ l k e. absurd (cc);
-      }) h,
+      λ u h. inner_sent t (begin_of m) u i (λ e. cc) (λ n k e.
+          let same : m ≡ n = one.one_no m n j.0 k.0 j.1 k.1 (sym e) in
+          omega (arith, begin_ready m j r, ap (λ (y : Leg). one_if y.from 1) same)) h,
     )
 
     put_ready : (m : Leg) (a : ℕ) → Act m → Allowed t (Put (no m.from) a) → F (Put (no m.from) a) < P (begin_of m)
@@ -454,20 +400,7 @@ module _ (L : List Leg) (out : ℕ → Bool) (T : List ℕ → Type 0) (g : Link
     send_put m a j has r = (
       (m, j, refl, has),
       put_free L out key home no wait one D here came F P st ties f i.lines i.front m a j has (put_ready m a j r),
-      λ u h. inner_sent t (Put (no m.from) a) u i (λ e. cc) (record {
-        bursts = λ m a k x e. absurd (cc);
-        columns = λ l k a i j h x e. absurd (cc);
-        rows = λ l k i j z e. absurd (cc);
-        calls = λ m k e. absurd (cc);
-        begins = λ m k e. absurd (cc);
-        puts = λ n b k x e. let same : n ≡ m = one.one_no n m k.0 j.0 k.1 j.1 (cc) in let z : b ≡ a = cc in
-            omega (arith, put_ready m a j r, ap (λ (y : Leg). F (Put (no y.from) b)) same, ap (λ y. F (Put (no m.from) y)) z, ap (λ (y : Leg). P (begin_of y)) same);
-        exits = λ m k e. absurd (cc);
-        backs = λ l k e. absurd (cc);
-        gates = λ l k e. absurd (cc);
-        gives = λ a o e. absurd (cc);
-        behind = λ l k e. absurd (cc);
-      }) h,
+      λ u h. inner_sent t (Put (no m.from) a) u i (λ e. cc) (λ n k x e. put_ready m a j r) h,
     )
 
     exit_ready : (m : Leg) → Act m → Allowed t (exit_of m) → F (exit_of m) < P (begin_of m)
@@ -477,20 +410,7 @@ module _ (L : List Leg) (out : ℕ → Bool) (T : List ℕ → Type 0) (g : Link
     send_exit m j r = (
       (m, j, refl),
       exit_free L out key home no wait one D here came F P st ties f i.lines i.front m j (exit_ready m j r),
-      λ u h. inner_sent t (exit_of m) u i (λ e. cc) (record {
-        bursts = λ m a k x e. absurd (cc);
-        columns = λ l k a i j h x e. absurd (cc);
-        rows = λ l k i j z e. absurd (cc);
-        calls = λ m k e. absurd (cc);
-        begins = λ m k e. absurd (cc);
-        puts = λ m a k x e. absurd (cc);
-        exits = λ n k e. let same : n ≡ m = one.one_no n m k.0 j.0 k.1 j.1 (cc) in
-            subst (λ n. F (exit_of n) < P (begin_of n)) (sym same) (exit_ready m j r);
-        backs = λ l k e. absurd (cc);
-        gates = λ l k e. absurd (cc);
-        gives = λ a o e. absurd (cc);
-        behind = λ l k e. absurd (cc);
-      }) h,
+      λ u h. inner_sent t (exit_of m) u i (λ e. cc) (λ n k e z. exit_ready m j r) h,
     )
 
     back_ready : (l : Leg) → Input l → Allowed t (back_of l.from) → F (back_of l.from) < left L out key home no wait P l.from
@@ -501,20 +421,9 @@ module _ (L : List Leg) (out : ℕ → Bool) (T : List ℕ → Type 0) (g : Link
     send_back l m j n to r = (
       (l, m, j, n, to, refl),
       back_free L out key home no wait one D here came F P st ties f i.lines i.front l j (back_ready l j r),
-      λ u h. inner_sent t (back_of l.from) u i (λ e. cc) (record {
-        bursts = λ m a k x e. absurd (cc);
-        columns = λ l k a i j h x e. absurd (cc);
-        rows = λ l k i j z e. absurd (cc);
-        calls = λ m k e. absurd (cc);
-        begins = λ m k e. absurd (cc);
-        puts = λ m a k x e. absurd (cc);
-        exits = λ m k e. absurd (cc);
-        backs = λ q k e. let same : q.from ≡ l.from = one.one_wait q l k.0 j.0 k.1 j.1 (cc) in
-            subst (λ x. F (back_of x) < left L out key home no wait P x) (sym same) (back_ready l j r);
-        gates = λ l k e. absurd (cc);
-        gives = λ a o e. absurd (cc);
-        behind = λ l k e. absurd (cc);
-      }) h,
+      λ u h. inner_sent t (back_of l.from) u i (λ e. cc) (λ q k e.
+          let same : l.from ≡ q.from = one.one_wait l q j.0 k.0 j.1 k.1 (sym e) in
+          omega (arith, back_ready l j r, ap (left L out key home no wait P) same)) h,
     )
 
     row_ready : (l : Leg) → Input l → Allowed t (row_of l.from) → F (row_of l.from) < one_if l.from 1 + P (back_of l.from)
@@ -525,20 +434,9 @@ module _ (L : List Leg) (out : ℕ → Bool) (T : List ℕ → Type 0) (g : Link
     send_row l j r = (
       (l, j, refl),
       row_free L out key home no wait one D here came F P st ties f i.lines i.front l j (row_ready l j r),
-      λ u h. inner_sent t (row_of l.from) u i (λ e. cc) (record {
-        bursts = λ m a k x e. absurd (cc);
-        columns = λ l k a i j h x e. absurd (cc);
-        rows = λ l k i j z e. absurd (cc);
-        calls = λ m k e. absurd (cc);
-        begins = λ m k e. absurd (cc);
-        puts = λ m a k x e. absurd (cc);
-        exits = λ m k e. absurd (cc);
-        backs = λ l k e. absurd (cc);
-        gates = λ q k e. let same : q.from ≡ l.from = one.one_wait q l k.0 j.0 k.1 j.1 (cc) in
-            subst (λ x. F (row_of x) < one_if x 1 + P (back_of x)) (sym same) (row_ready l j r);
-        gives = λ a o e. absurd (cc);
-        behind = λ l k e. absurd (cc);
-      }) h,
+      λ u h. inner_sent t (row_of l.from) u i (λ e. cc) (λ q k e.
+          let same : l.from ≡ q.from = one.one_wait l q j.0 k.0 j.1 k.1 (sym e) in
+          omega (arith, row_ready l j r, ap (λ x. one_if x 1) same)) h,
     )
 
     give_ready : (a : ℕ) → out a ≡ true → Allowed t (Give a) → F (Give a) < given_by L out key home no wait P a
@@ -550,19 +448,7 @@ module _ (L : List Leg) (out : ℕ → Bool) (T : List ℕ → Type 0) (g : Link
         let o : out a ≡ true = act_has L out key home no wait one m a j has in (
           (m, j, has),
           give_free L out key home no wait one D here came F P st ties f i.lines i.front a o (give_ready a o r),
-          λ u h. inner_sent t (Give a) u i (λ e. cc) (record {
-            bursts = λ m a k x e. absurd (cc);
-            columns = λ l k a i j h x e. absurd (cc);
-            rows = λ l k i j z e. absurd (cc);
-            calls = λ m k e. absurd (cc);
-            begins = λ m k e. absurd (cc);
-            puts = λ m a k x e. absurd (cc);
-            exits = λ m k e. absurd (cc);
-            backs = λ l k e. absurd (cc);
-            gates = λ l k e. absurd (cc);
-            gives = λ b p e. let z : b ≡ a = cc in omega (arith, give_ready a o r, ap (λ y. F (Give y)) z, ap (λ y. given_by L out key home no wait P y) z);
-            behind = λ l k e. absurd (cc);
-          }) h,
+          λ u h. inner_sent t (Give a) u i (λ e. cc) (λ p. give_ready a o r) h,
         )
 
     -- ---- handing over
@@ -739,26 +625,14 @@ module _ (L : List Leg) (out : ℕ → Bool) (T : List ℕ → Type 0) (g : Link
           (l, j, n.grown.has),
           take_free L out key home no wait one D here came F P st ties f i.lines i.front l a j n.grown.has n.grown.from (fresh a n),
           λ u h.
-              let none : Guard L out key home no wait D F P (Take a) = record {
-                bursts = λ m a k x e. absurd (cc);
-                columns = λ l k a i j h x e. absurd (cc);
-                rows = λ l k i j z e. absurd (cc);
-                calls = λ m k e. absurd (cc);
-                begins = λ m k e. absurd (cc);
-                puts = λ m a k x e. absurd (cc);
-                exits = λ m k e. absurd (cc);
-                backs = λ l k e. absurd (cc);
-                gates = λ l k e. absurd (cc);
-                gives = λ a o e. absurd (cc);
-                behind = λ l k e. absurd (cc);
-              } in record {
+              record {
                 story = i.story ++ a ∷ [];
                 tale = n.next;
                 is = ap (word out) (longer_at t Env (Take a) u h Env refl) ∙ take_end out (t Env) a o ∙ ap (λ v. v ++ a ∷ []) i.is;
                 lines = lines_more L out key home no wait (sent net u) P (got net u)
-                    (lines_fired L out key home no wait one D F P (Take a) (sent net u) i.lines none (sent_grew Name Wire net fine t (Take a) u h)) (λ v. omega (arith, got_same Name Wire net fine t (Take a) u h v));
+                    (lines_fired L out key home no wait one D F P (Take a) tt (sent net u) i.lines (sent_grew Name Wire net fine t (Take a) u h)) (λ v. omega (arith, got_same Name Wire net fine t (Take a) u h v));
                 front = front_taken a n (sent net u) (got net u) o
-                    (front_fired L out key home no wait one D here came F P (Take a) (sent net u) i.front none (sent_grew Name Wire net fine t (Take a) u h)).behind
+                    (front_fired L out key home no wait one D F P (Take a) tt here came (sent net u) i.front (sent_grew Name Wire net fine t (Take a) u h)).behind
                     (λ v. omega (arith, got_same Name Wire net fine t (Take a) u h v));
               },
         )

@@ -1,5 +1,5 @@
 -- The web of a process by a token.
-use Rattle.std.proofs.Common.{◌≡◌, ℕ, ◌+◌, ◌<◌, Bool, true, false, nat_eq, List, [], ◌∷◌, ◌++◌, map, filter, ◌⊎◌, if◌then◌else◌}
+use Rattle.std.proofs.Common.{◌≡◌, ℕ, ◌<◌, Bool, true, false, nat_eq, List, [], ◌∷◌, ◌++◌, map, filter, ◌⊎◌, if◌then◌else◌}
 use native.Mathlib.Decide.{ℕ_discrete}
 use Rattle.cmd_tree.specs.Rounds.{tally, naught}
 use Rattle.place_graph.specs.declared.wait_graph.Cross.{Cross as Crossing}

@@ -1,5 +1,5 @@
 -- Commands of one process that needs a token, and the networks of these.
-use Rattle.std.specs.Prelude.{◌≡◌, ℕ, [], ◌∷◌, length}
+use Rattle.std.specs.Prelude.{◌≡◌, [], ◌∷◌, length}
 use Rattle.cmd_tree.specs.declared.tree.Proc.{Proc}
 use Rattle.cmd_tree.specs.declared.command.Command.{Command}
 use Rattle.cmd_tree.specs.Limits.{marks_of_all}
