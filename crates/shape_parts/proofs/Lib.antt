@@ -1,6 +1,6 @@
-mod Chosen
-mod Cuts
-mod Filled
-mod Keyed
-mod Labelled
-mod Links
+pub mod Chosen
+pub mod Cuts
+pub mod Filled
+pub mod Keyed
+pub mod Labelled
+pub mod Links

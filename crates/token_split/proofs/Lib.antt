@@ -21,3 +21,4 @@ mod TokenNumbered
 mod TokenPlaces
 mod TokenTabled
 mod TokenBuilt
+mod TokenCommands

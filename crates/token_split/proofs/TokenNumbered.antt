@@ -162,9 +162,9 @@ module _ (s : NodeSpec) (g : Links) (rows columns : ℕ → List ℕ) (meets : �
     all_known =
         all_append Known (map Join (range_with_len 0 g.bursts)) _ (all_of Known Join (range_with_len 0 g.bursts) (λ b. tt))
         (all_append Known (map Meet (range_with_len 0 many)) _ (low 0 many (omega arith))
-          (all_append Known (joined (λ n. Calls n ∷ Gate n ∷ Spread n ∷ []) (range_with_len 0 g.acts)) _ (all_joined Known (λ n. Calls n ∷ Gate n ∷ Spread n ∷ []) (range_with_len 0 g.acts) (λ n. (tt, (tt, (tt, tt)))))
-            (all_append Known (joined (λ w. Returns w ∷ Entry w ∷ []) (range_with_len 0 g.waits)) _ (all_joined Known (λ w. Returns w ∷ Entry w ∷ []) (range_with_len 0 g.waits) (λ w. (tt, (tt, tt))))
-              (all_of Known Shows (range_with_len 0 g.names) (λ a. tt)))))
+        (all_append Known (joined (λ n. Calls n ∷ Gate n ∷ Spread n ∷ []) (range_with_len 0 g.acts)) _ (all_joined Known (λ n. Calls n ∷ Gate n ∷ Spread n ∷ []) (range_with_len 0 g.acts) (λ n. (tt, (tt, (tt, tt)))))
+        (all_append Known (joined (λ w. Returns w ∷ Entry w ∷ []) (range_with_len 0 g.waits)) _ (all_joined Known (λ w. Returns w ∷ Entry w ∷ []) (range_with_len 0 g.waits) (λ w. (tt, (tt, tt))))
+        (all_of Known Shows (range_with_len 0 g.names) (λ a. tt)))))
       where
         low : (a n : ℕ) → a + n ≤ many → AllByRecursion Known (map Meet (range_with_len a n))
         low a zero h = tt
@@ -175,11 +175,11 @@ module _ (s : NodeSpec) (g : Links) (rows columns : ℕ → List ℕ) (meets : �
         map-append renamed (map Join (range_with_len 0 g.bursts)) _ ∙ ap (λ xs. xs ++ map renamed rest1) (map_fixed renamed Join (range_with_len 0 g.bursts) (λ b. refl))
         ∙ ap (λ xs. map Join (range_with_len 0 g.bursts) ++ xs)
         (map-append renamed (map Meet (range_with_len 0 many)) rest2 ∙ ap (λ xs. xs ++ map renamed rest2) met
-          ∙ ap (λ xs. map Meet g.parts ++ xs)
-          (map-append renamed acts rest3 ∙ ap (λ xs. xs ++ map renamed rest3) (map_joined renamed (λ n. Calls n ∷ Gate n ∷ Spread n ∷ []) (range_with_len 0 g.acts) (λ n. refl))
-            ∙ ap (λ xs. acts ++ xs)
-            (map-append renamed waits shows ∙ ap (λ xs. xs ++ map renamed shows) (map_joined renamed (λ w. Returns w ∷ Entry w ∷ []) (range_with_len 0 g.waits) (λ w. refl))
-              ∙ ap (λ xs. waits ++ xs) (map_fixed renamed Shows (range_with_len 0 g.names) (λ a. refl))))))
+        ∙ ap (λ xs. map Meet g.parts ++ xs)
+        (map-append renamed acts rest3 ∙ ap (λ xs. xs ++ map renamed rest3) (map_joined renamed (λ n. Calls n ∷ Gate n ∷ Spread n ∷ []) (range_with_len 0 g.acts) (λ n. refl))
+        ∙ ap (λ xs. acts ++ xs)
+        (map-append renamed waits shows ∙ ap (λ xs. xs ++ map renamed shows) (map_joined renamed (λ w. Returns w ∷ Entry w ∷ []) (range_with_len 0 g.waits) (λ w. refl))
+        ∙ ap (λ xs. waits ++ xs) (map_fixed renamed Shows (range_with_len 0 g.names) (λ a. refl))))))
       where
         shows : List Name
         shows = map Shows (range_with_len 0 g.names)

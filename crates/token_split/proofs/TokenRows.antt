@@ -1,13 +1,18 @@
 -- Rows of tables that are filled item by item.
 use Rattle.std.specs.Prelude.{◌||◌, if◌then◌else◌, nat_eq}
-use Rattle.std.proofs.Common.{◌≡◌, ◌≢◌, ℕ, zero, suc, ◌+◌, ◌-◌, ◌<◌, ◌≤◌, Bool, true, false, List, [], ◌∷◌, ◌++◌, length, map, filter, get_or, set, take, drop, Option, Some, None, inl, inr, refl, sym, ap, ◌∙◌, arith, append-nil, eq-eqb, ne_eqb}
-use Rattle.std.specs.List.{range_with_len, position_or_len}
+use Rattle.std.proofs.Common.{cond, ◌≡◌, ◌≢◌, ℕ, zero, suc, ◌+◌, ◌-◌, ◌<◌, ◌≤◌, Bool, true, false, List, [], ◌∷◌, ◌++◌, length, map, filter, get_or, set, take, drop, Option, Some, None, inl, inr, refl, sym, ap, subst, ◌∙◌, arith, append-nil, eq-eqb, ne_eqb}
+use Rattle.std.specs.List.{range_with_len, position_or_len, AllByRecursion}
 use Rattle.std.proofs.lemmas.Bool.{cases_eq}
 use Rattle.std.proofs.lemmas.List.{get_or-set_same, get_or-set_other, drop_more}
 use Rattle.cmd_tree.specs.Lists.{is_in}
 use Rattle.net_laws.proofs.Among.{Among, Distinct}
+use Rattle.basic_kinds.specs.ShapeParts.{label, part_names}
+use Rattle.shape_parts.specs.declared.cut.ShapePart.{ShapePart}
+use Rattle.shape_parts.specs.Cut.{part_of, parts_of}
+use Rattle.shape_parts.proofs.Chosen.{filter_below}
 use Rattle.shape_parts.proofs.Filled.{filter_more}
 use Rattle.token_split.specs.TokenChart.{listed}
+use Rattle.token_split.proofs.TokenSteps.{first_step}
 
 -- one item more in its row
 pub row_pushed : {A : Type 0} (rows : List (List A)) (many r : ℕ) (b : List A) (x : A) (F : ℕ → List A) → length rows ≡ many → r < many → ((k : ℕ) → k < many → get_or rows k [] ≡ F k)
@@ -64,8 +69,13 @@ home_step rows b row old new a low is before after =
     after ∙ by (is_in a row) refl ∙ ap (λ rs. b + position_or_len (is_in a) rs) (ap (λ r. r ∷ drop (b + 1) rows) is ∙ sym (drop_more rows b [] low))
   where
     by : (t : Bool) → is_in a row ≡ t → (if t then b else old) ≡ b + position_or_len (is_in a) (row ∷ drop (b + 1) rows)
-    by true t = rw t (omega arith)
-    by false t = rw t (omega (arith, before))
+    by true t =
+        let e : position_or_len (is_in a) (row ∷ drop (b + 1) rows) ≡ 0 = first_step (is_in a) row (drop (b + 1) rows) ∙ ap (λ (t : Bool). cond t 0 (1 + position_or_len (is_in a) (drop (b + 1) rows))) t in
+        omega (arith, e)
+    by false t =
+        let e : position_or_len (is_in a) (row ∷ drop (b + 1) rows) ≡ 1 + position_or_len (is_in a) (drop (b + 1) rows) =
+        first_step (is_in a) row (drop (b + 1) rows) ∙ ap (λ (t : Bool). cond t 0 (1 + position_or_len (is_in a) (drop (b + 1) rows))) t in
+        omega (arith, e, before)
 
 -- an act is added to the rows of its outputs, each once
 pub giver_step : (rows : List (List ℕ)) (x act : ℕ) (b rest : List ℕ) (a : ℕ) → x < length rows → b ≡ get_or rows x [] ++ act ∷ [] → is_in x rest ≡ false
@@ -89,3 +99,22 @@ pub once_at : (xs : List ℕ) (i : ℕ) → Distinct xs → i < length xs → is
 once_at [] i d low = absurd (omega arith)
 once_at (x ∷ xs) zero d low = let e : 0 + 1 ≡ 1 = omega arith in not_in x xs d.0
 once_at (x ∷ xs) (suc i) d low = let e : suc i + 1 ≡ suc (i + 1) = omega arith in ap (λ (k : ℕ). is_in (get_or xs i 0) (drop k (x ∷ xs))) e ∙ once_at xs i d.1 (omega arith)
+
+-- ---- the rows of a graph
+
+-- what holds of the items that rows are made of holds of the rows
+pub rows_all : {V X : Type 0} (P : List ℕ → Type 0) (f : V → List ℕ) (g : X → List ℕ) (vs : List V) (xs : List X) → map f vs ≡ map g xs → AllByRecursion (λ x. P (g x)) xs → AllByRecursion (λ v. P (f v)) vs
+rows_all P f g [] xs e h = tt
+rows_all P f g (v ∷ vs) [] e h = absurd (cc)
+rows_all P f g (v ∷ vs) (x ∷ xs) e h =
+    let here : f v ≡ g x = cc in
+    let rest : map f vs ≡ map g xs = cc in
+    (subst P (sym here) h.0, rows_all P f g vs xs rest h.1)
+
+-- the places of the crossings of parts are below the number of crossings
+pub parts_places : (rows cols : ℕ) (cross : List (ℕ × ℕ)) (m : ℕ) → length cross ≤ m → AllByRecursion (λ (p : ShapePart). AllByRecursion (λ n. n < m) p.places) (parts_of rows cols cross)
+parts_places rows cols cross m h = over (part_names rows cross)
+  where
+    over : (names : List ℕ) → AllByRecursion (λ (p : ShapePart). AllByRecursion (λ n. n < m) p.places) (map (part_of rows cols cross) names)
+    over [] = tt
+    over (i ∷ names) = (filter_below (λ n. nat_eq (label rows cross (get_or cross n (0, 0)).0) i) 0 (length cross) m (omega (arith, h)), over names)

@@ -36,6 +36,7 @@ use Rattle.token_split.proofs.TokenRoutes.{Listed}
 use Rattle.token_split.proofs.TokenParts.{IsPart, is_shape_true}
 use Rattle.token_split.proofs.TokenCharted.{IsNarrow}
 use Rattle.token_split.proofs.TokenNumbered.{by_number}
+use Rattle.token_split.proofs.TokenSteps.{first_step}
 
 -- ---- lists
 
@@ -90,11 +91,12 @@ all_within rows cols (c ∷ cs) h =
 -- the first burst that has a symbol, by its symbols or by their numbers
 same_home : (a : ℕ) (bs : List (List Sym)) → position_or_len (is_in a) (map numbers_of bs) ≡ position_or_len (has_sym (record { 0 = a })) bs
 same_home a [] = refl
-same_home a (b ∷ bs) = ap (λ (t : Bool). cond t 0 (1 + position_or_len (is_in a) (map numbers_of bs))) (sym (same_member a b)) ∙ ap (λ n. cond (has_sym (record { 0 = a }) b) 0 (1 + n)) (same_home a bs)
+same_home a (b ∷ bs) = first_step (is_in a) (numbers_of b) (map numbers_of bs) ∙ ap (λ (t : Bool). cond t 0 (1 + position_or_len (is_in a) (map numbers_of bs))) (sym (same_member a b)) ∙ ap (λ n. cond (has_sym (record { 0 = a }) b) 0 (1 + n)) (same_home a bs)
+    ∙ sym (first_step (has_sym (record { 0 = a })) b bs)
 
 no_home : (a : ℕ) (rows : List (List ℕ)) → ((r : List ℕ) → Among r rows → is_in a r ≡ false) → position_or_len (is_in a) rows ≡ length rows
 no_home a [] h = refl
-no_home a (r ∷ rows) h = ap (λ (t : Bool). cond t 0 (1 + position_or_len (is_in a) rows)) (h r (inl refl)) ∙ omega (arith, no_home a rows (λ x i. h x (inr i)))
+no_home a (r ∷ rows) h = first_step (is_in a) r rows ∙ ap (λ (t : Bool). cond t 0 (1 + position_or_len (is_in a) rows)) (h r (inl refl)) ∙ omega (arith, no_home a rows (λ x i. h x (inr i)))
 
 in_none : (a : ℕ) (rows : List (List ℕ)) → ((n : ℕ) → n < length rows → is_in a (get_or rows n []) ≡ false) → (r : List ℕ) → Among r rows → is_in a r ≡ false
 in_none a [] h r i = absurd i
@@ -219,9 +221,9 @@ module _ (L : List Leg) (out : ℕ → Bool) (graph : WaitGraph) (names : ℕ) (
       ap (λ (n : ℕ). map (crossing_at graph.crosses) (filter (λ n. nat_eq (label graph.waits (pairs graph) (get_or (pairs graph) n (0, 0)).0) i) (range_with_len 0 n))) (length-map graph.crosses (λ (c : Crossing). (c.wait, c.burst)))
       ∙ ap (map (crossing_at graph.crosses))
       (filter_same (λ n. nat_eq (label graph.waits (pairs graph) (get_or (pairs graph) n (0, 0)).0) i) (λ n. nat_eq (chart.part_of graph (crossing_at graph.crosses n).wait) i) 0 (length graph.crosses)
-        (λ n a low. ap (λ (p : ℕ × ℕ). nat_eq (label graph.waits (pairs graph) p.0) i) (mapped_at (λ (c : Crossing). (c.wait, c.burst)) graph.crosses n (record { wait = 0; burst = 0; act = 0 }))))
+      (λ n a low. ap (λ (p : ℕ × ℕ). nat_eq (label graph.waits (pairs graph) p.0) i) (mapped_at (λ (c : Crossing). (c.wait, c.burst)) graph.crosses n (record { wait = 0; burst = 0; act = 0 }))))
       ∙ sym (filter_places (λ (c : Crossing). nat_eq (chart.part_of graph c.wait) i) (crossing_at graph.crosses) (record { wait = 0; burst = 0; act = 0 }) 0 graph.crosses
-        (λ j low. let z : 0 + j ≡ j = omega arith in ap (crossing_at graph.crosses) z))
+      (λ j low. let z : 0 + j ≡ j = omega arith in ap (crossing_at graph.crosses) z))
 
   pub meets_is : (k : ℕ) → k < length g.parts → (links_by t).meets k ≡ g.meets (name k)
   meets_is k low =

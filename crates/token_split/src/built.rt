@@ -5,10 +5,11 @@ ghost use Rattle.place_graph.specs.Graph.{graph_of};
 ghost use Rattle.net_core.specs.declared.spec.NodeSpec.TheVariants.{Cmd};
 ghost use Rattle.net_laws.specs.Charts.{charted};
 ghost use Rattle.net_laws.specs.Implementing.{Implements};
+ghost use Rattle.plain_split.specs.PlainNet.{HasCounted};
 ghost use Rattle.token_split.specs.declared.paths.Wire.{Wire as WireName};
 ghost use Rattle.token_split.specs.TokenChart as web;
 ghost use Rattle.token_split.specs.TokenChart.{token_chart};
-ghost use Rattle.token_split.specs.TokenNet.{HasToken, IsTokenNet};
+ghost use Rattle.token_split.specs.TokenNet.{HasToken, IsTokenNet, token_circuit};
 ghost use Rattle.token_split.specs.Mirror.TokenTables.{links_by, wire_of, node_by, part_by, IsReady};
 ghost use Rattle.token_split.specs.Mirror.WirePlaces.{ArePlaces};
 
@@ -95,15 +96,25 @@ fn net_of(alloc: Global, tables: &LinkTables, spec: Command) -> Result<Net, Allo
     Net::of_nodes(alloc, nodes, lines.len() as u32)
 }
 
+/// The network of a command of one process by a token, whose graph this is.
+fn by_token(alloc: Global, spec: Command, graph: &WaitGraph) -> Result<Net, AllocError>
+    requires { (p : Proc) × HasToken spec p × (graph.now ≡ graph_of p) }
+    ensures { (p : Proc) → HasToken spec p → IfOk result (λ net. net ≡ token_circuit spec p) }
+{
+    let tables = LinkTables::new(alloc, graph, spec.names.len() as u32)?;
+    net_of(alloc, &tables, spec)
+}
+
 /// The network of an admitted command of one process that needs a token, whose graph this is. It consists of
-/// basic components, is correct for the command and clean, and has fewer than 2^20 wires.
+/// basic components, is correct for the command and clean, has fewer than 2^20 wires, and of each kind as
+/// many as are counted of the graph.
 pub fn token_net(alloc: Global, spec: &Command, graph: &WaitGraph) -> Result<Net, AllocError>
     requires { (p : Proc) × HasToken spec.now p × (graph.now ≡ graph_of p) }
     ensures net { (p : Proc) → HasToken spec.now p → IfOk result (IsTokenNet spec.now p) }
     ensures right { IfOk result (λ net. Implements net (Cmd spec.now)) }
     ensures few { IfOk result (λ net. net.wires < 2 ^ 20) }
+    ensures kinds { (p : Proc) → HasToken spec.now p → IfOk result (HasCounted spec.now p) }
 {
     let copy = copy_command(alloc, spec)?;
-    let tables = LinkTables::new(alloc, graph, copy.names.len() as u32)?;
-    net_of(alloc, &tables, copy)
+    by_token(alloc, copy, graph)
 }

@@ -1,13 +1,13 @@
 //! The network of a process whose graph needs a token.
 #![tactic(auto)]
 
+mod built;
 mod laws;
 mod links;
 mod listed;
 mod named;
 mod numbered;
 mod paths;
-mod built;
 
-pub use laws::token_law;
 pub use built::token_net;
+pub use laws::token_law;

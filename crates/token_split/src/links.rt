@@ -140,10 +140,13 @@ fn returns(alloc: Global, acts: &[Act], waits: u32) -> Result<Vec<Vec<u32>>, All
 {
     let mut rows = no_acts(alloc, waits)?;
     for (number, act) in acts.iter().enumerate() {
-        if let Some(wait) = act.exit {
-            if wait < waits {
-                rows[wait as usize].push(number as u32)?;
+        match act.exit {
+            Some(wait) => {
+                if wait < waits {
+                    rows[wait as usize].push(number as u32)?;
+                }
             }
+            None => {}
         }
     }
     Ok(rows)

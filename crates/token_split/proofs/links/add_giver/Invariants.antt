@@ -7,5 +7,5 @@ abbrev pub invariant-loop-symbol : goal.invariant-loop-symbol
 invariant-loop-symbol l = record {
   many : length l.rows ≡ length l.initial.rows;
   rows : (a : ℕ) → a < length l.initial.rows
-    → get_or (map (λ v. v.items) l.rows) a [] ++ (if is_in a (drop l.symbol-index l.outs) then l.act ∷ [] else []) ≡ get_or (map (λ v. v.items) l.initial.rows) a [] ++ (if is_in a l.outs then l.act ∷ [] else []);
+      → get_or (map (λ v. v.items) l.rows) a [] ++ (if is_in a (drop l.symbol-index l.outs) then l.act ∷ [] else []) ≡ get_or (map (λ v. v.items) l.initial.rows) a [] ++ (if is_in a l.outs then l.act ∷ [] else []);
 }
