@@ -15,3 +15,10 @@ pub mod TokenWires
 pub mod TokenKinds
 pub mod TokenLaw
 pub mod TokenExamples
+mod TokenSteps
+mod TokenRows
+mod TokenNumbered
+mod TokenPlaces
+mod TokenTabled
+mod TokenBuilt
+mod TokenCommands

@@ -88,22 +88,22 @@ module _ (out : ℕ → Bool) (p : Proc) (proc : IsProc p) (body : IsTrue (is_so
 
   -- ---- how many there are
 
-  acts_low : g.acts ≤ places_of_proc p
+  pub acts_low : g.acts ≤ places_of_proc p
   acts_low = omega (arith, legs_few p proc, few_filter is_act (legs p), map_long (act (legs p)) (acts_of (legs p)))
 
   inputs_low : length (inputs_of (legs p)) ≤ places_of_proc p
   inputs_low = omega (arith, legs_few p proc, few_filter (λ l. not (is_act l)) (legs p))
 
-  waits_low : g.waits ≤ places_of_proc p
+  pub waits_low : g.waits ≤ places_of_proc p
   waits_low = omega (arith, few_with_new nat_eq [] (points_of (inputs_of (legs p))), map_long (λ (l : Leg). l.from) (inputs_of (legs p)), inputs_low)
 
-  bursts_low : g.bursts ≤ places_of_proc p
+  pub bursts_low : g.bursts ≤ places_of_proc p
   bursts_low = omega (arith, legs_few p proc, bursts_few (legs p))
 
   abbrev crosses : List Crossing
   crosses = in_order (map (cross (legs p)) (inputs_of (legs p)))
 
-  crosses_low : length crosses ≤ places_of_proc p
+  pub crosses_low : length crosses ≤ places_of_proc p
   crosses_low = omega (arith, order_long (map (cross (legs p)) (inputs_of (legs p))), map_long (cross (legs p)) (inputs_of (legs p)), inputs_low)
 
   pub narrow : places_of_proc p < 2 ^ 26 → names < 2 ^ 26 → IsNarrow g
@@ -151,21 +151,21 @@ module _ (out : ℕ → Bool) (p : Proc) (proc : IsProc p) (body : IsTrue (is_so
 -- ---- a command of this process alone
 
 module _ (c : Command) (p : Proc) (h : HasToken c p) where
-  abbrev directions : ℕ → Bool
+  abbrev pub directions : ℕ → Bool
   directions = gives_symbol (marks_of_all c.procs)
 
-  proc : IsProc p
+  pub proc : IsProc p
   proc = (subst (AllByRecursion IsProc) h.alone c.valid.shaped).0
 
-  body : IsTrue (is_some p.body)
+  pub body : IsTrue (is_some p.body)
   body = (subst (AllByRecursion (λ p. IsTrue (is_some p.body))) h.alone c.valid.bodied).0
 
-  symbols_known : (a : ℕ) → a < length c.names ↔ IsTrue (has_symbol (marks_of_proc p) a)
+  pub symbols_known : (a : ℕ) → a < length c.names ↔ IsTrue (has_symbol (marks_of_proc p) a)
   symbols_known =
       let marks : marks_of_all c.procs ≡ marks_of_proc p = ap marks_of_all h.alone ∙ append-nil (marks_of_proc p) in
       numbered_known p (length c.names) (subst (λ ms. IsNumbered 0 ms (length c.names)) marks c.valid.numbered)
 
-  places : places_of_proc p ≤ MAX_PLACES
+  pub places : places_of_proc p ≤ MAX_PLACES
   places = omega (arith, c.valid.few_places, ap places_of_all h.alone)
 
   traces : (t : List ℕ) → Trace c.procs t ↔ TraceOf p t

@@ -27,7 +27,7 @@ all_below_true : (k : ℕ) (test : ℕ → Bool) → ((i : ℕ) → i < k → te
 all_below_true zero test h = refl
 all_below_true (suc k) test h = both_and (test k) (all_below k test) (h k (omega arith)) (all_below_true k test (λ i low. h i (omega arith)))
 
-is_shape_true : (rows cols : ℕ) (cross : List (ℕ × ℕ)) → IsShape rows cols cross → is_shape rows cols cross ≡ true
+pub is_shape_true : (rows cols : ℕ) (cross : List (ℕ × ℕ)) → IsShape rows cols cross → is_shape rows cols cross ≡ true
 is_shape_true rows cols cross w =
     both_and (nat_lt 0 rows) (nat_lt 0 cols && (is_rising cross && (list_all (is_within rows cols) cross && (all_below rows (has_row cross) && all_below cols (has_column cross))))) (lt-ltb 0 rows w.some_row)
     (both_and (nat_lt 0 cols) (is_rising cross && (list_all (is_within rows cols) cross && (all_below rows (has_row cross) && all_below cols (has_column cross)))) (lt-ltb 0 cols w.some_column)

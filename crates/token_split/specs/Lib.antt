@@ -1,3 +1,4 @@
 pub mod PartKind
 pub mod TokenChart
 pub mod TokenNet
+pub mod Mirror

@@ -1,0 +1,6 @@
+pub mod Chosen
+pub mod Cuts
+pub mod Filled
+pub mod Keyed
+pub mod Labelled
+pub mod Links

@@ -1,0 +1,43 @@
+-- The nodes that are listed are those of the chart.
+use Rattle.std.proofs.Common.{◌≡◌, ℕ, List, [], ◌∷◌, length, map, refl, sym, ap, ◌∙◌, arith}
+use Rattle.net_core.specs.declared.spec.NodeSpec.{NodeSpec}
+use Rattle.net_core.specs.Wiring.{Node, Circuit}
+use Rattle.net_laws.specs.Charts.{charted}
+use Rattle.token_split.specs.declared.paths.Wire.{Wire}
+use Rattle.token_split.specs.declared.paths.Part.{Part}
+use Rattle.token_split.specs.declared.paths.Part.TheVariants as part
+use Rattle.token_split.specs.TokenChart as web
+use Rattle.token_split.specs.TokenChart.{Links, token_chart}
+use Rattle.token_split.specs.Mirror.TokenTables.{wire_of, name_of, node_by, part_by}
+
+one_part : (s : NodeSpec) (g : Links) (ws : List web.Wire) (p : Part) → part_by g ws p ≡ node_by s g ws (name_of p)
+one_part s g ws (part.Join b) = refl
+one_part s g ws (part.Meet k) = refl
+one_part s g ws (part.Calls n) = refl
+one_part s g ws (part.Gate n) = refl
+one_part s g ws (part.Spread n) = refl
+one_part s g ws (part.Returns w) = refl
+one_part s g ws (part.Entry w) = refl
+one_part s g ws (part.Shows a) = refl
+
+all_parts : (s : NodeSpec) (g : Links) (ws : List web.Wire) (ps : List Part) → map (part_by g ws) ps ≡ map (node_by s g ws) (map name_of ps)
+all_parts s g ws [] = refl
+all_parts s g ws (p ∷ ps) = ap (λ x. x ∷ map (part_by g ws) ps) (one_part s g ws p) ∙ ap (λ xs. node_by s g ws (name_of p) ∷ xs) (all_parts s g ws ps)
+
+wires_long : (xs : List Wire) → length (map wire_of xs) ≡ length xs
+wires_long [] = refl
+wires_long (x ∷ xs) = omega (arith, wires_long xs)
+
+pub lines_long : (g : Links) (ls : List Wire) → map wire_of ls ≡ web.lines g → length ls ≡ length (web.lines g)
+lines_long g ls h = omega (arith, wires_long ls, ap length h)
+
+same_net : (s : NodeSpec) (g : Links) (ps : List Part) (ls : List Wire) (ns : List Node) → map name_of ps ≡ web.components g → map wire_of ls ≡ web.lines g
+    → ns ≡ node_by s g (map wire_of ls) web.Env ∷ map (part_by g (map wire_of ls)) ps → ◌≡◌ {A = Circuit} (record { nodes = ns; wires = length ls }) (charted (token_chart s g))
+same_net s g ps ls ns p h e =
+    ap (λ xs. record { nodes = xs; wires = length ls }) (e ∙ ap (λ xs. node_by s g (map wire_of ls) web.Env ∷ xs) (all_parts s g (map wire_of ls) ps ∙ ap (map (node_by s g (map wire_of ls))) p)
+    ∙ ap (λ ws. node_by s g ws web.Env ∷ map (node_by s g ws) (web.components g)) h)
+    ∙ ap (λ k. record { nodes = node_by s g (web.lines g) web.Env ∷ map (node_by s g (web.lines g)) (web.components g); wires = k }) (lines_long g ls h)
+
+pub whole_net : (s : NodeSpec) (g : Links) (ps qs : List Part) (ls : List Wire) (ns : List Node) (k : ℕ) → ps ≡ qs → map name_of qs ≡ web.components g → map wire_of ls ≡ web.lines g → k ≡ length ls
+    → ns ≡ node_by s g (map wire_of ls) web.Env ∷ map (part_by g (map wire_of ls)) ps → ◌≡◌ {A = Circuit} (record { nodes = ns; wires = k }) (charted (token_chart s g))
+whole_net s g ps qs ls ns k p a b e n = ap (λ i. record { nodes = ns; wires = i }) e ∙ same_net s g ps ls ns (ap (map name_of) p ∙ a) b n

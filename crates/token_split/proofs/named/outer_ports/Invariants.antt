@@ -1,0 +1,8 @@
+use Rattle.std.proofs.Common.{◌≡◌, map}
+use Rattle.std.specs.List.{range_with_len}
+use Rattle.token_split.specs.TokenChart as web
+use Rattle.token_split.specs.Mirror.TokenTables.{links_by, wire_of}
+use Rattle.token_split.proofs.named.outer_ports.Given as goal
+
+abbrev pub invariant-loop-symbol : goal.invariant-loop-symbol
+invariant-loop-symbol l = map wire_of l.wires.items ≡ map (web.port (links_by l.tables)) (range_with_len 0 l.symbol)
