@@ -29,7 +29,8 @@ use Rattle.net_core.specs.Networks.{directions_at, spec_of}
 use Rattle.net_laws.specs.Implementing.{Implements}
 use Rattle.plain_split.specs.OneWaitSums.{is_component}
 use Rattle.plain_split.specs.PlainNet.{IsPlain, HasPlain, HasCounted}
-use Rattle.token_split.specs.TokenNet.{NeedsToken}
+use Rattle.token_split.specs.TokenNet.{HasToken}
+use Rattle.token_split.proofs.TokenLaw.{token_admitted}
 use Rattle.di_compile.specs.declared.build.Basis.TheVariants.{Wide}
 use Rattle.di_compile.specs.Compiling.{IsBuilt, IsInOrderOf, IsNetworkOf}
 use Rattle.di_compile.proofs.Alone.{no_grant, one_sum}
@@ -58,8 +59,8 @@ module _ (c : Command) (p : Proc) (admitted : Admitted c.procs) (alone : c.procs
   pub has_plain : IsPlain (style_of (graph_of p)) → HasPlain c p
   has_plain plain = record { alone = alone; admitted = admitted; other = no_grant c.procs p admitted alone; plain = plain }
 
-  pub needs_token : style_of (graph_of p) ≡ Token → NeedsToken c p
-  needs_token style = record { alone = alone; admitted = admitted; other = no_grant c.procs p admitted alone; style = style }
+  pub has_token : style_of (graph_of p) ≡ Token → HasToken c p
+  has_token style = token_admitted c p (record { alone = alone; admitted = admitted; other = no_grant c.procs p admitted alone; style = style })
 
   pub is_drawable : IsDrawable p
   is_drawable = (subst (Each (λ p. (IsGrant p → ⊥) → IsDrawable p)) alone (drawables c.procs admitted c.names c.valid)).0 (no_grant c.procs p admitted alone)

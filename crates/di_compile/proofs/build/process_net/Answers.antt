@@ -1,7 +1,7 @@
 use Rattle.place_graph.specs.Graph.{graph_of}
 use Rattle.plain_split.specs.PlainNet.{HasPlain}
-use Rattle.token_split.specs.TokenNet.{NeedsToken}
-use Rattle.di_compile.proofs.Built.{plain_style, token_style, has_plain, needs_token}
+use Rattle.token_split.specs.TokenNet.{HasToken}
+use Rattle.di_compile.proofs.Built.{plain_style, token_style, has_plain, has_token}
 use Rattle.di_compile.proofs.build.process_net.Goals as goal
 
 pub plain_net-requires : goal.plain_net-requires
@@ -14,4 +14,4 @@ pub token_net-requires : goal.token_net-requires
 token_net-requires c =
     let p = c.args.process.now in
     let style = token_style c.style.result c.args.graph.now (graph_of p) c.in-Token.is c.style.ensures c.requires.graph in
-    (p, needs_token c.args.command.now p c.requires.admitted c.requires.alone style, c.requires.graph)
+    (p, has_token c.args.command.now p c.requires.admitted c.requires.alone style, c.requires.graph)
