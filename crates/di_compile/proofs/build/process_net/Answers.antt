@@ -15,3 +15,15 @@ token_net-requires c =
     let p = c.args.process.now in
     let style = token_style c.style.result c.args.graph.now (graph_of p) c.in-Token.is c.style.ensures c.requires.graph in
     (p, has_token c.args.command.now p c.requires.admitted c.requires.alone style, c.requires.graph)
+
+pub returns-in-Token-clause-kinds : goal.returns-in-Token-clause-kinds
+returns-in-Token-clause-kinds c =
+    let p = c.args.process.now in
+    let style = token_style c.style.result c.args.graph.now (graph_of p) c.in-Token.is c.style.ensures c.requires.graph in
+    c.token_net.ensures.kinds p (has_token c.args.command.now p c.requires.admitted c.requires.alone style)
+
+pub returns-in-OneWait-clause-kinds : goal.returns-in-OneWait-clause-kinds
+returns-in-OneWait-clause-kinds c =
+    let p = c.args.process.now in
+    let plain = plain_style c.style.result c.args.graph.now (graph_of p) c.in-OneWait.is c.style.ensures c.requires.graph in
+    c.plain_net.ensures.kinds p (has_plain c.args.command.now p c.requires.admitted c.requires.alone plain)
