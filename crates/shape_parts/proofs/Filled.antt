@@ -1,13 +1,13 @@
 -- Buckets that are filled number by number.
 use Rattle.std.specs.Prelude.{zero, suc, if◌then◌else◌, nat_eq}
-use Rattle.std.proofs.Common.{◌≡◌, ◌≢◌, ℕ, ◌+◌, ◌<◌, ◌≤◌, Bool, true, false, List, [], ◌∷◌, ◌++◌, length, get_or, set, inl, inr, refl, sym, ap, ◌∙◌, arith, append-nil, eq-eqb, ne_eqb}
+use Rattle.std.proofs.Common.{◌≡◌, ℕ, ◌+◌, ◌<◌, ◌≤◌, Bool, true, false, List, [], ◌∷◌, ◌++◌, length, get_or, set, inl, inr, refl, sym, ap, ◌∙◌, arith, append-nil, eq-eqb, ne_eqb}
 use Rattle.std.specs.List.{filter, range_with_len, AllByRecursion}
 use Rattle.std.proofs.lemmas.Bool.{cases_eq}
 use Rattle.std.proofs.lemmas.List.{get_or-set_same, get_or-set_other}
 use Rattle.std.proofs.lemmas.List.FromFn.{length-range_with_len}
 use Rattle.std.proofs.lemmas.List.Elements.{filter-append}
 use Rattle.basic_kinds.specs.Sorts.{how_many, how_many_below}
-use Rattle.shape_parts.specs.Keys.{key_at, rank}
+use Rattle.shape_parts.specs.Keys.{key_at}
 use Rattle.shape_parts.proofs.Links.{range_more}
 
 pub filter_more : (f : ℕ → Bool) (n : ℕ) → filter f (range_with_len 0 (n + 1)) ≡ filter f (range_with_len 0 n) ++ (if f n then n ∷ [] else [])

@@ -1,9 +1,8 @@
 -- The tables from which the keys of a shape are made.
-use Rattle.std.specs.Prelude.{◌&&◌, ◌||◌, if◌then◌else◌, nat_eq, nat_lt}
-use Rattle.std.proofs.Common.{filter, ◌≡◌, ℕ, zero, suc, ◌+◌, ◌<◌, ◌≤◌, Bool, true, false, List, [], ◌∷◌, length, map, get_or, slice_index, IsTrue, inl, inr, refl, sym, ap, ◌∙◌, subst, arith, eqb-true, eq-eqb, ltb-true}
+use Rattle.std.specs.Prelude.{◌||◌, if◌then◌else◌, nat_eq}
+use Rattle.std.proofs.Common.{filter, ◌≡◌, ℕ, zero, suc, ◌+◌, ◌<◌, ◌≤◌, Bool, true, false, List, [], ◌∷◌, length, map, get_or, slice_index, IsTrue, inl, inr, refl, sym, ap, ◌∙◌, subst, arith, eqb-true}
 use Rattle.std.specs.List.{list_all, list_any, range_with_len, AllByRecursion}
 use Rattle.std.proofs.lemmas.Bool.{cases_lt, cond-true, cond-false}
-use Rattle.std.proofs.lemmas.List.{get_or-map, length-map}
 use Rattle.std.proofs.lemmas.List.FromFn.{get_or-map-range_with_len, length-map-range_with_len}
 use Rattle.basic_kinds.specs.Shapes.{is_within}
 use Rattle.basic_kinds.specs.Sorts.{how_many_below}
@@ -11,7 +10,7 @@ use Rattle.basic_kinds.specs.ShapeParts.{label, part_names, has_row, has_column}
 use Rattle.basic_kinds.proofs.Crossings.{any_at}
 use Rattle.shape_parts.specs.Keys.{is_among, rank, with_key}
 use Rattle.shape_parts.specs.Mirror.Cuts.{is_name, number_of, many_parts, row_key, column_key, crossing_key, row_keys, column_keys, crossing_keys, line_key}
-use Rattle.shape_parts.proofs.Chosen.{any_member, filter_same, how_many_same}
+use Rattle.shape_parts.proofs.Chosen.{filter_same, how_many_same}
 use Rattle.shape_parts.proofs.Filled.{count_more}
 use Rattle.shape_parts.proofs.Labelled.{label_low, labels_agree}
 use Rattle.shape_parts.proofs.Links.{within_at}

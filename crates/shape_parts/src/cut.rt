@@ -1,5 +1,5 @@
 //! A shape cut into its connected parts.
-ghost use Rattle.std.specs.Prelude.{◌≡◌, ℕ, ◌+◌, ◌<◌, ◌^◌, [], length, map, get_or, IsTrue, IfOk};
+ghost use Rattle.std.specs.Prelude.{◌≡◌, ◌+◌, ◌<◌, ◌^◌, [], length, map, get_or, IsTrue, IfOk};
 ghost use Rattle.std.specs.List.{list_all, AllByRecursion};
 ghost use Rattle.basic_kinds.specs.Shapes.{is_within};
 ghost use Rattle.shape_parts.specs.Cut.{parts_of};

@@ -12,7 +12,5 @@ mod marks;
 mod tests;
 mod union_find;
 
-pub use by_key::Buckets;
 pub use cut::{ShapePart, parts};
-pub use keys::ShapeKeys;
 pub use union_find::labels;

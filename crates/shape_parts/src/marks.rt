@@ -1,5 +1,5 @@
 //! Tables over numbers: which are marked, how many marks stand before each, and what a table has at them.
-ghost use Rattle.std.specs.Prelude.{◌≡◌, ℕ, ◌+◌, ◌<◌, ◌^◌, false, filter, length, map, get_or, slice_index, IfOk};
+ghost use Rattle.std.specs.Prelude.{◌≡◌, ◌+◌, ◌<◌, ◌^◌, false, filter, length, map, get_or, slice_index, IfOk};
 ghost use Rattle.std.specs.List.{range_with_len, AllByRecursion};
 ghost use Rattle.basic_kinds.specs.Sorts.{how_many_below};
 ghost use Rattle.shape_parts.specs.Keys.{is_among};

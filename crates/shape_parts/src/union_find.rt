@@ -1,5 +1,5 @@
 //! The parts of a shape by union-find.
-ghost use Rattle.std.specs.Prelude.{◌≡◌, ℕ, ◌+◌, ◌<◌, ◌≤◌, ◌^◌, length, map, slice_index, set, IsTrue, IfOk};
+ghost use Rattle.std.specs.Prelude.{◌≡◌, ℕ, ◌+◌, ◌<◌, ◌^◌, length, map, slice_index, IsTrue, IfOk};
 ghost use Rattle.std.specs.List.{range_with_len, list_all};
 ghost use Rattle.basic_kinds.specs.Shapes.{is_within};
 ghost use Rattle.basic_kinds.specs.ShapeParts.{label, merged};

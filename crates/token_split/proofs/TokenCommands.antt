@@ -1,5 +1,5 @@
 -- What the code that builds the network of a command of one process by a token rests on.
-use Rattle.std.proofs.Common.{◌≡◌, Bool, ℕ, ◌+◌, ◌<◌, ◌^◌, List, length, refl, sym, ap, ◌∙◌, subst, arith}
+use Rattle.std.proofs.Common.{◌≡◌, Bool, ℕ, ◌<◌, ◌^◌, length, sym, ap, ◌∙◌, subst, arith}
 use Rattle.cmd_tree.specs.declared.command.Command.{Command}
 use Rattle.cmd_tree.specs.declared.tree.Proc.{Proc}
 use Rattle.place_graph.specs.declared.leg.Leg.{Leg}
@@ -10,7 +10,7 @@ use Rattle.net_core.specs.declared.spec.NodeSpec.TheVariants.{Cmd}
 use Rattle.net_core.specs.Wiring.{Circuit}
 use Rattle.net_laws.specs.Charts.{charted}
 use Rattle.net_laws.specs.Implementing.{Implements}
-use Rattle.token_split.specs.TokenChart.{links, lines, token_chart}
+use Rattle.token_split.specs.TokenChart.{lines, token_chart}
 use Rattle.token_split.specs.TokenNet.{HasToken, links_of, token_circuit}
 use Rattle.token_split.specs.Mirror.TokenTables.{LinkTables, links_by, tables_of, IsReady, IsTokenGraph}
 use Rattle.token_split.proofs.TokenLaw.{are_numbered, are_drawn, are_listed, command_narrow, command_parted, command_right, command_wires, proc, body, symbols_known, places, waits_low, bursts_low, crosses_low, acts_low, directions}

@@ -1,5 +1,4 @@
 -- The parts of the crossings by their places in place of their names: the network is the same.
-use Rattle.std.specs.Prelude.{if◌then◌else◌}
 use Rattle.std.proofs.Common.{◌≡◌, ℕ, zero, suc, ◌+◌, ◌<◌, ◌≤◌, Bool, true, false, List, [], ◌∷◌, ◌++◌, length, map, filter, get_or, cond, refl, sym, ap, ◌∙◌, arith}
 use Rattle.std.specs.List.{range_with_len, AllByRecursion}
 use Rattle.std.proofs.Math.Path.{fun_ext}
@@ -8,12 +7,11 @@ use Rattle.place_graph.specs.declared.wait_graph.Cross.{Cross as Crossing}
 use Rattle.basic_kinds.specs.ShapeParts.{local_part}
 use Rattle.net_core.specs.declared.spec.NodeSpec.{NodeSpec}
 use Rattle.net_core.specs.declared.spec.NodeSpec.TheVariants.{Kind as Basic}
-use Rattle.net_core.specs.Wiring.{Node, Circuit}
-use Rattle.net_laws.specs.Charts.{Chart, charted, node_of}
+use Rattle.net_laws.specs.Charts.{charted, node_of}
 use Rattle.plain_split.specs.SharedPaths.{joined, place, walk}
 use Rattle.shape_parts.proofs.Keyed.{by_place}
 use Rattle.token_split.specs.PartKind.{part_kind}
-use Rattle.token_split.specs.TokenChart.{Wire, Take, Burst, Return, Row, Cross, Call, Begin, Put, Exit, Give, Name, Env, Join, Meet, Calls, Gate, Spread, Returns, Entry, Shows, Links, cross_wire, pair, same_wire, receiver, is_kept, next, rest, last, inputs, outputs, ports, is_given, spec_at, all_names, components, lines, token_chart}
+use Rattle.token_split.specs.TokenChart.{Wire, Take, Burst, Return, Row, Cross, Call, Begin, Put, Exit, Give, Name, Env, Join, Meet, Calls, Gate, Spread, Returns, Entry, Shows, Links, cross_wire, pair, same_wire, receiver, is_kept, next, rest, last, inputs, ports, is_given, spec_at, all_names, components, lines, token_chart}
 
 -- a fact of all items, kept by what is done to lists of them
 all_append : {A : Type 0} (P : A → Type 0) (xs ys : List A) → AllByRecursion P xs → AllByRecursion P ys → AllByRecursion P (xs ++ ys)

@@ -1,13 +1,12 @@
 -- The places of wires, noted one after another.
 use Rattle.std.specs.Prelude.{not, ◌&&◌, if◌then◌else◌, nat_eq, unwrap_or}
-use Rattle.std.proofs.Common.{◌≡◌, ◌≢◌, ◌⊎◌, ℕ, zero, suc, ◌+◌, ◌<◌, ◌≤◌, Bool, true, false, List, [], ◌∷◌, ◌++◌, length, map, get_or, take, cond, Option, Some, None, inl, inr, refl, sym, ap, ◌∙◌, arith, eq-eqb, ne_eqb, eqb-true, true≢false}
+use Rattle.std.proofs.Common.{◌≡◌, ◌⊎◌, ℕ, ◌+◌, ◌≤◌, Bool, true, false, List, [], ◌∷◌, ◌++◌, length, map, cond, Option, Some, None, inl, inr, refl, sym, ap, ◌∙◌, arith, eq-eqb, ne_eqb, eqb-true, true≢false}
 use Rattle.std.specs.List.{position_or_len}
 use native.Mathlib.Decide.{ℕ_discrete}
 use Rattle.std.proofs.lemmas.Bool.{and_from, and_parts, cases_eq, cases_Bool}
-use Rattle.std.proofs.lemmas.List.{take_more, length-take-le}
 use Rattle.std.proofs.lemmas.List.Folds.{position_or_len_push}
 use Rattle.std.proofs.lemmas.List.Sums.{prefix_len-le-length}
-use Rattle.net_laws.proofs.Webs.{Decides, test, test_decides}
+use Rattle.net_laws.proofs.Webs.{test_decides}
 use Rattle.plain_split.specs.SharedPaths.{place}
 use Rattle.token_split.specs.declared.paths.Wire.{Wire}
 use Rattle.token_split.specs.declared.paths.Wire.TheVariants as wire

@@ -1,7 +1,7 @@
 -- Rows of tables that are filled item by item.
 use Rattle.std.specs.Prelude.{◌||◌, if◌then◌else◌, nat_eq}
-use Rattle.std.proofs.Common.{cond, ◌≡◌, ◌≢◌, ℕ, zero, suc, ◌+◌, ◌-◌, ◌<◌, ◌≤◌, Bool, true, false, List, [], ◌∷◌, ◌++◌, length, map, filter, get_or, set, take, drop, Option, Some, None, inl, inr, refl, sym, ap, subst, ◌∙◌, arith, append-nil, eq-eqb, ne_eqb}
-use Rattle.std.specs.List.{range_with_len, position_or_len, AllByRecursion}
+use Rattle.std.proofs.Common.{cond, ◌≡◌, ℕ, zero, suc, ◌+◌, ◌<◌, ◌≤◌, Bool, true, false, List, [], ◌∷◌, ◌++◌, length, map, get_or, set, drop, Option, Some, None, inl, inr, refl, sym, ap, subst, ◌∙◌, arith, append-nil, eq-eqb, ne_eqb}
+use Rattle.std.specs.List.{position_or_len, AllByRecursion}
 use Rattle.std.proofs.lemmas.Bool.{cases_eq}
 use Rattle.std.proofs.lemmas.List.{get_or-set_same, get_or-set_other, drop_more}
 use Rattle.cmd_tree.specs.Lists.{is_in}
@@ -10,7 +10,6 @@ use Rattle.basic_kinds.specs.ShapeParts.{label, part_names}
 use Rattle.shape_parts.specs.declared.cut.ShapePart.{ShapePart}
 use Rattle.shape_parts.specs.Cut.{part_of, parts_of}
 use Rattle.shape_parts.proofs.Chosen.{filter_below}
-use Rattle.shape_parts.proofs.Filled.{filter_more}
 use Rattle.token_split.specs.TokenChart.{listed}
 use Rattle.token_split.proofs.TokenSteps.{first_step}
 
@@ -46,21 +45,6 @@ leads_one f n r k o e h = ap (λ (t : Bool). if t then n ∷ [] else []) (h ∙ 
 
 pub leads_none : (f : ℕ → Bool) (n k : ℕ) (o : Option ℕ) (ys : List ℕ) → o ≡ None → f n ≡ is_in k (listed o) → ys ≡ ys ++ (if f n then n ∷ [] else [])
 leads_none f n k o ys e h = sym (append-nil ys) ∙ ap (λ (t : Bool). ys ++ (if t then n ∷ [] else [])) (sym (h ∙ ap (λ (p : Option ℕ). is_in k (listed p)) e))
-
--- the burst of a symbol, noted in a table
-pub home_set : (a x burst : ℕ) (rest homes : List ℕ) → x < length homes
-    → (if is_in a rest then burst else get_or (set homes x burst) a 0) ≡ (if is_in a (x ∷ rest) then burst else get_or homes a 0)
-home_set a x burst rest homes low = elim (cases_eq a x) [
-  | inl here ↦
-      let at : get_or (set homes x burst) a 0 ≡ burst = ap (λ (i : ℕ). get_or (set homes x burst) i 0) here ∙ get_or-set_same homes x burst 0 low in
-      ap (λ (v : ℕ). if is_in a rest then burst else v) at ∙ both (is_in a rest) ∙ ap (λ (t : Bool). if t || is_in a rest then burst else get_or homes a 0) (sym (eq-eqb a x here))
-  | inr other ↦
-      ap (λ (v : ℕ). if is_in a rest then burst else v) (get_or-set_other homes x a burst 0 other) ∙ ap (λ (t : Bool). if t || is_in a rest then burst else get_or homes a 0) (sym (ne_eqb a x other))
-]
-  where
-    both : (t : Bool) → (if t then burst else burst) ≡ burst
-    both true = refl
-    both false = refl
 
 -- the first row that has the symbol, from the row b on
 pub home_step : (rows : List (List ℕ)) (b : ℕ) (row : List ℕ) (old new a : ℕ) → b < length rows → row ≡ get_or rows b [] → old ≡ (b + 1) + position_or_len (is_in a) (drop (b + 1) rows)

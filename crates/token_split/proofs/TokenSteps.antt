@@ -9,12 +9,9 @@ use Rattle.basic_kinds.specs.declared.kind.Kind.TheVariants as kind
 use Rattle.basic_kinds.specs.Shapes.{IsShape}
 use Rattle.plain_split.specs.SharedPaths.{joined}
 use Rattle.plain_split.specs.OneWait.{is_some, many}
+use Rattle.plain_split.proofs.JoinedSteps.{joined_both}
 use Rattle.token_split.specs.PartKind.{dw_of, part_kind}
 use Rattle.token_split.proofs.TokenParts.{dw_is}
-
-joined_both : {A B : Type 0} (f : A → List B) (xs ys : List A) → joined f (xs ++ ys) ≡ joined f xs ++ joined f ys
-joined_both f [] ys = refl
-joined_both f (x ∷ xs) ys = ap (λ zs. f x ++ zs) (joined_both f xs ys) ∙ sym (append_assoc (f x) (joined f xs) (joined f ys))
 
 -- two items more, after the lists of the numbers below
 pub two_more : {A B : Type 0} (g : A → B) (f : ℕ → List B) (xs : List A) (x y : A) (i : ℕ) → map g xs ≡ joined f (range_with_len 0 i) → g x ∷ g y ∷ [] ≡ f i

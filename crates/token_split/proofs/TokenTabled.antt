@@ -1,6 +1,6 @@
 -- The tables of the graph of a process say its links, with the parts of the crossings by their places.
-use Rattle.std.specs.Prelude.{◌||◌, if◌then◌else◌, nat_eq, nat_lt}
-use Rattle.std.proofs.Common.{◌≡◌, ◌⊎◌, inl, inr, ℕ, zero, suc, ◌+◌, ◌<◌, ◌≤◌, ◌^◌, Bool, true, false, true≢false, List, [], ◌∷◌, ◌++◌, length, map, filter, get_or, cond, IsTrue, Option, Some, None, refl, sym, ap, ◌∙◌, subst, arith, eqb-true, eq-eqb, ne_eqb, lt-ltb, ltb-true}
+use Rattle.std.specs.Prelude.{nat_eq, nat_lt}
+use Rattle.std.proofs.Common.{◌≡◌, inl, inr, ℕ, zero, suc, ◌+◌, ◌<◌, ◌≤◌, ◌^◌, Bool, true, false, List, [], ◌∷◌, length, map, filter, get_or, cond, IsTrue, None, refl, sym, ap, ◌∙◌, subst, arith, eq-eqb, lt-ltb}
 use Rattle.std.specs.List.{range_with_len, position_or_len, list_all, list_any, AllByRecursion}
 use Rattle.std.proofs.Math.Path.{fun_ext}
 use Rattle.std.proofs.lemmas.Bool.{cases_lt, and_from}
@@ -19,17 +19,16 @@ use Rattle.place_graph.specs.GraphTraces.{numbers_of}
 use Rattle.place_graph.specs.Sums.{pairs}
 use Rattle.net_core.specs.declared.spec.NodeSpec.{NodeSpec}
 use Rattle.net_laws.proofs.Among.{Among, Distinct}
-use Rattle.plain_split.specs.OneWait.{outs_at}
 use Rattle.plain_split.proofs.OneWaitDrawn.{in_among}
 use Rattle.plain_split.proofs.OneWaitWritten.{same_member}
-use Rattle.plain_split.proofs.SharedLists.{among_filter, filter_among}
+use Rattle.plain_split.proofs.SharedLists.{among_filter}
 use Rattle.shape_parts.specs.declared.cut.ShapePart.{ShapePart}
-use Rattle.shape_parts.specs.Cut.{part_of, part_places, parts_of}
+use Rattle.shape_parts.specs.Cut.{part_of, part_places}
 use Rattle.shape_parts.proofs.Chosen.{filter_places, filter_same}
 use Rattle.token_split.specs.TokenChart.{Links, links, exits_at, listed, meets_in, pair}
 use Rattle.token_split.specs.TokenChart as chart
 use Rattle.token_split.specs.PartKind.{is_shape}
-use Rattle.token_split.specs.Mirror.TokenTables.{LinkTables, crossing_at, graph_parts, links_by, no_part, part_in, tables_of, IsReady, IsTokenGraph}
+use Rattle.token_split.specs.Mirror.TokenTables.{LinkTables, crossing_at, links_by, no_part, part_in, tables_of, IsReady, IsTokenGraph}
 use Rattle.token_split.proofs.TokenCounts.{Numbered, next_act, next_wait}
 use Rattle.token_split.proofs.TokenTraces.{Drawn}
 use Rattle.token_split.proofs.TokenRoutes.{Listed}

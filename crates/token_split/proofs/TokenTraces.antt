@@ -1,15 +1,13 @@
 -- The network of a process by a token has no hazard: its web keeps the counts beside the story of the environment.
-use Rattle.std.proofs.Common.{eqb-true, ◌≡◌, ◌⊎◌, inl, inr, ℕ, suc, ◌+◌, ◌<◌, ◌≤◌, nat_eq, Bool, true, false, true≢false, filter, List, [], ◌∷◌, ◌++◌, map, refl, sym, ap, ◌∙◌, subst, arith, if◌then◌else◌}
+use Rattle.std.proofs.Common.{eqb-true, ◌≡◌, ◌⊎◌, inl, inr, ℕ, suc, ◌+◌, ◌<◌, ◌≤◌, nat_eq, Bool, true, filter, List, [], ◌∷◌, ◌++◌, map, refl, sym, ap, ◌∙◌, subst, arith, if◌then◌else◌}
 use Rattle.std.proofs.Math.Path.{fun_ext}
-use Rattle.cmd_tree.specs.Meaning.{symbols}
 use Rattle.cmd_tree.specs.Rounds.{tally, naught}
 use Rattle.place_graph.specs.declared.leg.Leg.{Leg}
 use Rattle.place_graph.specs.declared.wait_graph.Cross.{Cross as Crossing}
 use Rattle.place_graph.specs.Points.{Among as Member}
-use Rattle.place_graph.specs.Graph.{is_act}
 use Rattle.place_graph.specs.Tale.{one_if, times, Tale}
 use Rattle.place_graph.specs.Chart.{Has, Stands, Plays, Grows, sum_where, to_at, from_at, in_leg, done}
-use Rattle.place_graph.proofs.Sums.{times_from_in, one_same, sum_none}
+use Rattle.place_graph.proofs.Sums.{one_same, sum_none}
 use Rattle.net_laws.proofs.Webs.{Web, WebSound}
 use Rattle.net_laws.proofs.Told.{Lawful, sent, got, Flows, Longer, longer_at, longer_away, Tends, web_sound}
 use Rattle.net_laws.proofs.Woven.{grew_le, sent_grew, got_grew, got_same, sent_same}
@@ -23,7 +21,7 @@ use Rattle.plain_split.proofs.OneWaitTraces.{among_map, map_among, sum_of_map, s
 use Rattle.token_split.specs.TokenChart.{Wire, Take, Burst, Return, Row, Cross, Call, Begin, Put, Exit, Give, Name, Env, Join, Meet, Calls, Gate, Spread, Returns, Entry, Shows, Links, same_wire, driver, receiver, cross_wire}
 use Rattle.token_split.proofs.TokenWeb.{MeetOn, Crosses, of_row, of_column, word, Rule, web, lawful}
 use Rattle.token_split.proofs.TokenRules.{gate_out, gate_in, gate_some, join_out, join_in, join_some, fork_out, fork_in, take_end, give_end, word_takes, word_gives}
-use Rattle.token_split.proofs.TokenCounts.{Numbered, Acts, Inputs, bur, cross, back, row, call, begin, exit, entered, crossed, met, left, given_by, Lines, Front, Ties, Pends, Fires, lines_more, front_more, lines_fired, front_fired, next_act, next_wait, apart, act_has, input_has, inputs_with, one_burst, one_key, one_leg, one_cross, given, meets, take_free, take_lands, burst_free, columns_even, rows_even, cross_free, cross_lands, call_free, call_lands, begin_free, begin_lands, begin_exits, put_free, put_lands, exit_free, exit_lands, back_free, back_lands, row_free, give_free, Shown, give_lands}
+use Rattle.token_split.proofs.TokenCounts.{Numbered, Acts, Inputs, bur, cross, back, row, call, begin, exit, entered, crossed, met, left, given_by, Lines, Front, Ties, Pends, Fires, lines_more, front_more, lines_fired, front_fired, next_act, next_wait, act_has, input_has, inputs_with, one_burst, one_key, one_leg, one_cross, given, meets, take_free, take_lands, burst_free, columns_even, rows_even, cross_free, cross_lands, call_free, call_lands, begin_free, begin_lands, begin_exits, put_free, put_lands, exit_free, exit_lands, back_free, back_lands, row_free, give_free, Shown, give_lands}
 
 -- The links are those of the legs.
 pub record Drawn (L : List Leg) (out : ℕ → Bool) (g : Links) (key : Leg → ℕ) (home no wait : ℕ → ℕ) : Type 0 where

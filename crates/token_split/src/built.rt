@@ -1,5 +1,5 @@
 //! The network of a process by a token.
-ghost use Rattle.std.specs.Prelude.{◌≡◌, ◌+◌, ◌<◌, ◌^◌, List, ◌∷◌, map, length, IfOk};
+ghost use Rattle.std.specs.Prelude.{◌≡◌, ◌<◌, ◌^◌, List, ◌∷◌, map, length, IfOk};
 ghost use Rattle.cmd_tree.specs.declared.tree.Proc.{Proc};
 ghost use Rattle.place_graph.specs.Graph.{graph_of};
 ghost use Rattle.net_core.specs.declared.spec.NodeSpec.TheVariants.{Cmd};

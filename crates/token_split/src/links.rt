@@ -1,56 +1,16 @@
 //! How the graph of a process by a token is joined: tables of what leads where, each made in one pass.
-ghost use Rattle.std.specs.Prelude.{◌≡◌, ℕ, ◌+◌, ◌<◌, ◌^◌, nat_eq, List, [], map, filter, length, get_or, ◌∷◌, ◌++◌, replicate, None, IfOk, OnOk, IsTrue, if◌then◌else◌};
-ghost use Rattle.std.specs.List.{range_with_len, position_or_len, list_all, AllByRecursion};
-ghost use Rattle.basic_kinds.specs.Shapes.{is_within};
+ghost use Rattle.std.specs.Prelude.{◌≡◌, ℕ, ◌+◌, ◌<◌, ◌^◌, nat_eq, [], map, filter, length, get_or, ◌∷◌, ◌++◌, replicate, None, IfOk, OnOk, if◌then◌else◌};
+ghost use Rattle.std.specs.List.{range_with_len, position_or_len, AllByRecursion};
 ghost use Rattle.cmd_tree.specs.Lists.{is_in};
-ghost use Rattle.place_graph.specs.GraphTraces.{numbers_of};
-ghost use Rattle.place_graph.specs.Sums.{pairs};
 ghost use Rattle.net_laws.proofs.Among.{Distinct};
-ghost use Rattle.shape_parts.specs.Cut.{parts_of};
 ghost use Rattle.token_split.specs.TokenChart.{listed};
 ghost use Rattle.token_split.specs.Mirror.TokenTables.{crossing_at, links_by, part_in, tables_of, IsTokenGraph};
 
-use cmd_tree::Sym;
 use place_graph::{Act, Cross, Start, WaitGraph};
+use plain_split::{all_outs, all_symbols};
 use shape_parts::{ShapePart, parts};
-use sqlite_items::Items;
 use std::alloc::{AllocError, Global};
 use std::marker::Model;
-
-/// The numbers of symbols.
-fn numbers(alloc: Global, symbols: &[Sym]) -> Result<Vec<u32>, AllocError>
-    ensures { IfOk result (λ it. it.items ≡ numbers_of symbols.now) }
-{
-    let mut all = Vec::new(alloc);
-    for symbol in symbols {
-        all.push(symbol.0)?;
-    }
-    Ok(all)
-}
-
-/// The symbols of each burst.
-fn all_symbols(alloc: Global, bursts: &[Items<Sym>]) -> Result<Vec<Vec<u32>>, AllocError>
-    ensures { IfOk result (λ it. map (λ xs. xs.items) it.items ≡ map numbers_of bursts.now) }
-{
-    let mut all = Vec::new(alloc);
-    for burst in bursts {
-        let found = numbers(alloc, burst.as_slice())?;
-        all.push(found)?;
-    }
-    Ok(all)
-}
-
-/// The outputs of each act.
-fn all_outs(alloc: Global, acts: &[Act]) -> Result<Vec<Vec<u32>>, AllocError>
-    ensures { IfOk result (λ it. map (λ xs. xs.items) it.items ≡ map (λ y. numbers_of y.outs) acts.now) }
-{
-    let mut all = Vec::new(alloc);
-    for act in acts {
-        let found = numbers(alloc, act.outs.as_slice())?;
-        all.push(found)?;
-    }
-    Ok(all)
-}
 
 /// Notes the burst of its symbols.
 fn set_homes(homes: &mut [u32], symbols: &[u32], burst: u32)

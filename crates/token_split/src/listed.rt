@@ -1,5 +1,5 @@
 //! The components and wires of a network by a token in the order of their numbers.
-ghost use Rattle.std.specs.Prelude.{◌≡◌, ◌<◌, ◌^◌, [], ◌∷◌, ◌++◌, map, filter, length, IfOk};
+ghost use Rattle.std.specs.Prelude.{◌≡◌, ◌<◌, [], ◌∷◌, map, filter, IfOk};
 ghost use Rattle.std.specs.List.{range_with_len};
 ghost use Rattle.plain_split.specs.SharedPaths.{joined};
 ghost use Rattle.token_split.specs.TokenChart as web;

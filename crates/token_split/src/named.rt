@@ -1,5 +1,5 @@
 //! The ports and the kind of each component of a network by a token, by names.
-ghost use Rattle.std.specs.Prelude.{◌≡◌, ℕ, ◌<◌, ◌≤◌, ◌^◌, true, [], ◌∷◌, ◌++◌, map, length, IfOk, if◌then◌else◌};
+ghost use Rattle.std.specs.Prelude.{◌≡◌, ◌<◌, ◌≤◌, true, [], ◌∷◌, ◌++◌, map, length, IfOk, if◌then◌else◌};
 ghost use Rattle.net_core.specs.declared.spec.NodeSpec.{NodeSpec};
 ghost use Rattle.net_core.specs.declared.spec.NodeSpec.TheVariants.{Kind as Basic};
 ghost use Rattle.basic_kinds.specs.declared.kind.Kind.TheVariants as kind;

@@ -7,6 +7,7 @@ ghost use Rattle.token_split.specs.Mirror.TokenTables.{links_by, wire_of, name_o
 
 use crate::links::LinkTables;
 use place_graph::Cross;
+use plain_split::many;
 
 /// A wire by its name.
 #[derive(Debug, Clone, Copy, PartialEq, Eq, Hash)]
@@ -54,14 +55,13 @@ pub enum Part {
     Shows(u32),
 }
 
-/// Whether there are two or more.
-fn many(numbers: &[u32]) -> bool
-    ensures { result ≡ many numbers.now }
+/// The first number, or 0.
+fn first(numbers: &[u32]) -> u32
+    ensures { result ≡ first numbers.now }
 {
     match numbers {
-        [] => false,
-        [_] => false,
-        [_, _, ..] => true,
+        [] => 0,
+        [number, ..] => *number,
     }
 }
 
@@ -94,16 +94,6 @@ pub fn some(numbers: &[u32]) -> bool
     match numbers {
         [] => false,
         [_, ..] => true,
-    }
-}
-
-/// The first number, or 0.
-fn first(numbers: &[u32]) -> u32
-    ensures { result ≡ first numbers.now }
-{
-    match numbers {
-        [] => 0,
-        [number, ..] => *number,
     }
 }
 

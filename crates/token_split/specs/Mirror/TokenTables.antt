@@ -1,5 +1,5 @@
 -- The links of a graph as tables.
-use Rattle.std.specs.Prelude.{◌≡◌, ℕ, ◌+◌, ◌<◌, ◌≤◌, ◌^◌, Bool, true, nat_eq, IsTrue, List, [], ◌∷◌, length, map, filter, get_or, replicate, unwrap_or, None, Some}
+use Rattle.std.specs.Prelude.{◌≡◌, ℕ, ◌+◌, ◌<◌, ◌≤◌, ◌^◌, true, nat_eq, IsTrue, List, [], length, map, filter, get_or, None}
 use Rattle.std.specs.List.{range_with_len, position_or_len, list_all, AllByRecursion}
 use Rattle.basic_kinds.specs.declared.kind.Kind.TheVariants as kind
 use Rattle.basic_kinds.specs.Shapes.{is_within}

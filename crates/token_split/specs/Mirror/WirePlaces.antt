@@ -1,5 +1,5 @@
 -- The places of wires by their names.
-use Rattle.std.specs.Prelude.{◌≡◌, ℕ, Bool, List, length, map, unwrap_or}
+use Rattle.std.specs.Prelude.{◌≡◌, Bool, List, length, map, unwrap_or}
 use Rattle.std.specs.HashMap.{get}
 use Rattle.plain_split.specs.SharedPaths.{place}
 use Rattle.token_split.specs.declared.paths.Wire.{Wire}

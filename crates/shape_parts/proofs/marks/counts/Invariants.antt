@@ -1,4 +1,4 @@
-use Rattle.std.proofs.Common.{◌≡◌, ℕ, ◌+◌, false, map, get_or}
+use Rattle.std.proofs.Common.{◌≡◌, ◌+◌, false, map, get_or}
 use Rattle.std.specs.List.{range_with_len}
 use Rattle.basic_kinds.specs.Sorts.{how_many_below}
 use Rattle.shape_parts.proofs.marks.counts.Given as goal

@@ -1,4 +1,4 @@
-use Rattle.std.proofs.Common.{◌≡◌, ℕ, ◌+◌, Bool, false, List, [], ◌∷◌, ◌++◌, filter, get_or, sym, ap, ◌∙◌, append-nil}
+use Rattle.std.proofs.Common.{ℕ, Bool, false, [], ◌∷◌, ◌++◌, filter, get_or, sym, ap, ◌∙◌, append-nil}
 use Rattle.std.specs.Prelude.{if◌then◌else◌}
 use Rattle.std.specs.List.{range_with_len}
 use Rattle.shape_parts.proofs.Filled.{filter_more}

@@ -1,4 +1,4 @@
-use Rattle.std.proofs.Common.{◌≡◌, ℕ, false, filter, get_or}
+use Rattle.std.proofs.Common.{◌≡◌, false, filter, get_or}
 use Rattle.std.specs.List.{range_with_len}
 use Rattle.shape_parts.proofs.marks.marked.Given as goal
 

@@ -1,4 +1,3 @@
-use Rattle.std.proofs.Common.{◌∙◌, sym}
 use Rattle.shape_parts.proofs.Links.{leads_left, leads_right}
 use Rattle.shape_parts.proofs.union_find.join.Goals as goal
 

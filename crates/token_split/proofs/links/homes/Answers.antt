@@ -1,6 +1,6 @@
-use Rattle.std.proofs.Common.{◌≡◌, ℕ, ◌+◌, ◌-◌, ◌<◌, List, [], length, map, get_or, take, drop, sym, ap, ◌∙◌, arith}
+use Rattle.std.proofs.Common.{◌≡◌, ℕ, ◌+◌, ◌-◌, [], length, map, get_or, drop, sym, ap, ◌∙◌, arith}
 use Rattle.std.specs.List.{position_or_len}
-use Rattle.std.proofs.lemmas.List.{get_or-map, length-map, take_at, drop_all}
+use Rattle.std.proofs.lemmas.List.{get_or-map, length-map, take_at}
 use Rattle.std.proofs.lemmas.List.FromFn.{fill_by_all}
 use Rattle.cmd_tree.specs.Lists.{is_in}
 use Rattle.token_split.proofs.TokenRows.{home_step}

@@ -1,6 +1,6 @@
-use Rattle.std.proofs.Common.{◌≡◌, ℕ, List, ◌++◌, ◌∷◌, [], map, filter, sym, ap, ◌∙◌}
+use Rattle.std.proofs.Common.{◌++◌, ◌∷◌, [], map, filter, sym, ap, ◌∙◌}
 use Rattle.std.specs.List.{range_with_len}
-use Rattle.std.proofs.lemmas.List.{map_push, map-append}
+use Rattle.std.proofs.lemmas.List.{map_push}
 use Rattle.plain_split.proofs.JoinedSteps.{filter_kept, filter_left}
 use Rattle.plain_split.specs.OneWait.{is_some}
 use Rattle.token_split.specs.TokenChart.{Give, is_given}

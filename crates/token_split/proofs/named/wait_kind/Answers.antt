@@ -1,4 +1,4 @@
-use Rattle.std.proofs.Common.{ℕ, List, subst, sym}
+use Rattle.std.proofs.Common.{subst, sym}
 use Rattle.basic_kinds.specs.Shapes.{IsShape}
 use Rattle.token_split.specs.PartKind.{shape_from}
 use Rattle.token_split.proofs.TokenSteps.{dw_made}

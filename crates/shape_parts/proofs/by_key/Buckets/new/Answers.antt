@@ -3,7 +3,6 @@ use Rattle.std.specs.List.{filter, range_with_len}
 use Rattle.std.specs.Prelude.{nat_eq}
 use Rattle.std.proofs.lemmas.List.{get_or_read, length-set}
 use Rattle.std.proofs.lemmas.List.FromFn.{fill_by_all, map-range_with_len_more, length-range_with_len}
-use Rattle.basic_kinds.specs.Sorts.{how_many}
 use Rattle.shape_parts.specs.Keys.{key_at, rank, with_key}
 use Rattle.shape_parts.proofs.Filled.{bucket_more, filter_long, how_many_low, key_low}
 use Rattle.shape_parts.proofs.by_key.Buckets.new.Goals as goal

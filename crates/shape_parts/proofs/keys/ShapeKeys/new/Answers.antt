@@ -1,10 +1,9 @@
-use Rattle.std.proofs.Common.{◌≡◌, ℕ, ◌+◌, ◌<◌, List, Bool, true, false, length, map, get_or, slice_index, refl, sym, ap, ◌∙◌, arith}
-use Rattle.std.specs.List.{range_with_len}
+use Rattle.std.proofs.Common.{◌≡◌, ℕ, ◌+◌, List, length, map, slice_index, refl, sym, ap, ◌∙◌, arith}
 use Rattle.std.proofs.lemmas.List.{get_or_read}
 use Rattle.std.proofs.lemmas.List.FromFn.{length-map-range_with_len}
 use Rattle.shape_parts.specs.Keys.{is_among}
 use Rattle.shape_parts.specs.Mirror.Cuts.{line_key, row_keys}
-use Rattle.shape_parts.proofs.Keyed.{rows_below, columns_below, labels_long, names_below, names_marked, counts_long, many_is, row_known, row_keys_are, column_known, column_keys_are, crossing_keys_are, gathered, marked_by, counted_by}
+use Rattle.shape_parts.proofs.Keyed.{rows_below, columns_below, labels_long, names_below, names_marked, counts_long, row_known, row_keys_are, column_known, column_keys_are, crossing_keys_are, gathered, marked_by, counted_by}
 use Rattle.shape_parts.proofs.keys.ShapeKeys.new.Goals as goal
 
 pub gather-requires : goal.gather-requires

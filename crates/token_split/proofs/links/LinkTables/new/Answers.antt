@@ -1,4 +1,4 @@
-use Rattle.std.proofs.Common.{◌≡◌, ℕ, ◌<◌, ◌≤◌, List, [], length, map, filter, get_or, nat_eq, None, sym, ap, subst, ◌∙◌, arith}
+use Rattle.std.proofs.Common.{◌≡◌, ℕ, ◌<◌, List, [], length, map, filter, get_or, nat_eq, None, sym, ap, subst, ◌∙◌, arith}
 use Rattle.std.specs.List.{range_with_len, position_or_len, AllByRecursion}
 use Rattle.std.proofs.lemmas.List.{length-map}
 use Rattle.cmd_tree.specs.Lists.{is_in}
