@@ -1,10 +1,10 @@
 -- What is left of a leg: the symbols whose bits are set.
-use Rattle.std.proofs.Common.{◌≡◌, ◌≢◌, ◌↔◌, ℕ, zero, suc, ◌+◌, ◌<◌, ◌≤◌, Bool, true, false, true≢false, ◌||◌, nat_eq, if◌then◌else◌, List, [], ◌∷◌, length, slice_get, Some, None, IsTrue, refl, sym, ap, ◌∙◌, subst, arith, eqb-true, eq-eqb, ne_eqb}
+use Rattle.std.proofs.Common.{◌≡◌, ◌≢◌, ℕ, zero, suc, ◌<◌, ◌≤◌, Bool, true, false, true≢false, ◌||◌, nat_eq, if◌then◌else◌, List, [], ◌∷◌, length, slice_get, Some, IsTrue, refl, sym, ap, ◌∙◌, arith, eqb-true, eq-eqb, ne_eqb}
 use Rattle.std.proofs.lemmas.List.Sorted.{length_permutation}
 use Rattle.cmd_tree.specs.Lists.{is_in}
 use Rattle.cmd_tree.specs.Residual.{without}
 use Rattle.cmd_tree.proofs.Bursts.{pull}
-use Rattle.place_graph.specs.Tale.{times, one_if}
+use Rattle.place_graph.specs.Tale.{times}
 use Rattle.place_graph.proofs.Sums.{times_from_in, one_same}
 use Rattle.cmd_machine.specs.Mirror.Positions.{kept}
 

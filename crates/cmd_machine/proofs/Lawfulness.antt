@@ -19,8 +19,8 @@ use Rattle.di_grammar.proofs.FairnessLists.{each_at, each_of, all_each}
 use Rattle.place_graph.specs.declared.leg.Leg.{Leg}
 use Rattle.place_graph.specs.Apart.{HasApart}
 use Rattle.place_graph.specs.Chart.{Chart}
-use Rattle.place_graph.specs.Points.{Among, legs_of, legs_among, legs}
-use Rattle.place_graph.specs.Tale.{times, one_if}
+use Rattle.place_graph.specs.Points.{Among, legs_among, legs}
+use Rattle.place_graph.specs.Tale.{times}
 use Rattle.place_graph.proofs.Admission.{Other, charts, aparts}
 use Rattle.place_graph.proofs.Charted.{legs_increase, leg_apart}
 use Rattle.cmd_machine.specs.Lawful.{Lawful}

@@ -1,7 +1,7 @@
 -- How the rows of users grow.
-use Rattle.std.proofs.Common.{◌≡◌, ◌≢◌, ◌⊎◌, inl, inr, ⊎_elim, ℕ, zero, suc, ◌+◌, ◌<◌, ◌≤◌, Bool, true, false, true≢false, ◌||◌, nat_eq, if◌then◌else◌, List, [], ◌∷◌, ◌++◌, length, length-append, get_or, set, map, take, slice_get, Some, Vec, Global, IsTrue, refl, sym, ap, ◌∙◌, subst, arith, append-nil, eqb-true, eq-eqb, ne_eqb}
-use Rattle.std.specs.List.{AllByRecursion, list_any}
-use Rattle.std.proofs.lemmas.List.{take_all, take_more, map-set, get_or-map, get_or-set_same, get_or-set_other, length-map, length-take-le}
+use Rattle.std.proofs.Common.{◌≡◌, ◌≢◌, ◌⊎◌, inl, inr, ⊎_elim, ℕ, zero, suc, ◌+◌, ◌<◌, ◌≤◌, Bool, true, false, true≢false, ◌||◌, nat_eq, if◌then◌else◌, List, [], ◌∷◌, ◌++◌, length, length-append, get_or, set, map, take, slice_get, Some, Vec, Global, refl, sym, ap, ◌∙◌, subst, arith, append-nil, eqb-true, eq-eqb}
+use Rattle.std.specs.List.{AllByRecursion}
+use Rattle.std.proofs.lemmas.List.{take_more, map-set, get_or-map, get_or-set_same, get_or-set_other, length-map, length-take-le}
 use Rattle.std.proofs.lemmas.List.Folds.{list_any-append}
 use Rattle.cmd_tree.specs.declared.tree.Proc.{Proc}
 use Rattle.cmd_tree.specs.Limits.{marks_of_proc, places_of_proc, places_of_all}
@@ -171,13 +171,6 @@ note_step old before room after was row symbols i s k below within at inv same i
   where
     read : rows_of room s ≡ was.items
     read = get_or-map (λ (r : Row). r.items) room s was [] inside ∙ sym (ap (λ (r : Row). r.items) is)
-
--- all symbols are noted
-pub note_all : (old : ℕ → List ℕ) (after : List Row) (symbols : List ℕ) (i k : ℕ) → length symbols ≤ i
-    → ((a : ℕ) → rows_of after a ≡ old a ++ noted (is_in a (take i symbols)) k)
-    → (a : ℕ) → rows_of after a ≡ old a ++ noted (is_in a symbols) k
-note_all old after symbols i k h inv a = inv a
-    ∙ ap (λ xs. old a ++ noted (is_in a xs) k) (take_all i symbols h)
 
 -- ---- the processes one after another
 

@@ -1,5 +1,5 @@
 -- The row of a symbol in a walker.
-use Rattle.std.proofs.Common.{◌≡◌, ◌≢◌, ◌↔◌, ℕ, Bool, true, false, true≢false, not, List, [], ◌∷◌, ◌++◌, length, nat_eq, map, IsTrue, refl, sym, ap, ◌∙◌, subst, eq-eqb, eqb-true, arith, take, drop, Vec, Global}
+use Rattle.std.proofs.Common.{◌≡◌, ◌≢◌, ◌↔◌, ℕ, Bool, true, false, true≢false, not, List, [], ◌∷◌, ◌++◌, length, nat_eq, map, IsTrue, sym, ap, ◌∙◌, subst, eq-eqb, eqb-true, arith, take, drop, Vec, Global}
 use Rattle.std.proofs.Math.Seq.{take-append_seam}
 use Rattle.std.proofs.lemmas.List.{nil_from_length}
 use Rattle.cmd_tree.specs.declared.tree.Proc.{Proc}

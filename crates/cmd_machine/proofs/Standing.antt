@@ -1,5 +1,5 @@
 -- The traces that a position stands for.
-use Rattle.std.proofs.Common.{◌≡◌, ◌↔◌, ℕ, Bool, List, [], ◌∷◌, ◌++◌, IsTrue, refl}
+use Rattle.std.proofs.Common.{◌↔◌, ℕ, Bool, List, [], ◌∷◌, ◌++◌, IsTrue, refl}
 use Rattle.cmd_tree.specs.declared.tree.Proc.{Proc}
 use Rattle.cmd_tree.specs.Limits.{IsProc}
 use Rattle.cmd_tree.specs.Meaning.{TraceOf}

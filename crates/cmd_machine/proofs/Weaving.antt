@@ -10,7 +10,7 @@ use Rattle.cmd_tree.specs.declared.tree.Mark.{Mark}
 use Rattle.cmd_tree.specs.declared.tree.Proc.{Proc}
 use Rattle.cmd_tree.specs.Limits.{marks_of_proc, marks_of_all}
 use Rattle.cmd_tree.specs.Meaning.{TraceOf, Trace, has_symbol, project}
-use Rattle.place_graph.specs.Points.{OneOf, legs}
+use Rattle.place_graph.specs.Points.{OneOf}
 use Rattle.place_graph.proofs.Determined.{reached}
 use Rattle.cmd_machine.specs.declared.position.Position.{Position}
 use Rattle.cmd_machine.specs.Mirror.Positions as position

@@ -1,4 +1,4 @@
-use Rattle.std.proofs.Common.{◌≡◌, ◌+◌, ◌<◌, length, refl, sym, ap, subst, arith}
+use Rattle.std.proofs.Common.{length, refl, ap, arith}
 use Rattle.std.specs.BTreeMap.{get}
 use Rattle.cmd_machine.specs.Mirror.Positions.{key_cmp}
 use Rattle.cmd_machine.proofs.Entering.{none_entered, one_entered, all_entered, symbol_at}

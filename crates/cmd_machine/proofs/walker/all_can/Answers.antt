@@ -1,6 +1,4 @@
-use Rattle.std.proofs.Common.{◌≡◌, ◌↔◌, true, false, sym, subst, refl, drop, rules, List, []}
-use Rattle.std.proofs.lemmas.List.{drop_all}
-use Rattle.cmd_machine.specs.Mirror.Walkers.{AllGoOn}
+use Rattle.std.proofs.Common.{◌≡◌, true, false, refl, rules}
 use Rattle.cmd_machine.proofs.Weaving.{passed, stopped, past_all}
 use Rattle.cmd_machine.proofs.walker.all_can.Goals as goal
 

@@ -1,4 +1,4 @@
-use Rattle.std.proofs.Common.{◌≡◌, arith, sym, subst, ltb-true}
+use Rattle.std.proofs.Common.{◌≡◌, arith, sym, subst}
 use Rattle.cmd_machine.specs.Mirror.Positions as position
 use Rattle.cmd_machine.proofs.Weaving.{item_is, at_some}
 use Rattle.cmd_machine.proofs.walker.can_at.Goals as goal

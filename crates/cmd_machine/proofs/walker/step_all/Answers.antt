@@ -1,5 +1,5 @@
-use Rattle.std.proofs.Common.{◌≡◌, sym, subst, refl}
-use Rattle.cmd_machine.specs.Mirror.Walkers.{StandBut, users_from}
+use Rattle.std.proofs.Common.{sym, subst}
+use Rattle.cmd_machine.specs.Mirror.Walkers.{StandBut}
 use Rattle.cmd_machine.proofs.Weaving.{but_begins, but_ends, stepped, past_but}
 use Rattle.cmd_machine.proofs.walker.step_all.Goals as goal
 

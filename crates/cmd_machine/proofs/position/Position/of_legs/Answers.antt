@@ -1,4 +1,4 @@
-use Rattle.std.proofs.Common.{◌≡◌, ◌+◌, ◌<◌, length, refl, sym, ap, subst, arith, take}
+use Rattle.std.proofs.Common.{arith, take}
 use Rattle.std.specs.BTreeMap.{get}
 use Rattle.cmd_machine.specs.Mirror.Positions.{key_cmp}
 use Rattle.cmd_machine.proofs.Entering.{legs_entered, most_more, most_of}

@@ -1,6 +1,6 @@
-use Rattle.std.proofs.Common.{◌≡◌, ◌≢◌, ◌∙◌, true, false, sym, ap, subst, [], map, rules}
+use Rattle.std.proofs.Common.{◌≡◌, ◌≢◌, true, sym, subst, [], rules}
 use Rattle.cmd_machine.specs.Mirror.Walkers.{StandEach}
-use Rattle.cmd_machine.proofs.Weaving.{can_all, can_none}
+use Rattle.cmd_machine.proofs.Weaving.{can_all}
 use Rattle.cmd_machine.proofs.Rows.{users_are, some_row, none_row}
 use Rattle.cmd_machine.proofs.walker.Walker.can.Goals as goal
 
