@@ -1,0 +1,3 @@
+-- What mirrors the states of the code.
+pub mod Positions
+pub mod Walkers
