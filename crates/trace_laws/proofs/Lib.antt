@@ -3,6 +3,7 @@ pub mod Members
 pub mod Projections
 pub mod Shown
 pub mod Rules
+pub mod Linked
 pub mod Following
 pub mod Siblings
 pub mod Cuts

@@ -3,7 +3,10 @@ use Rattle.std.proofs.Common.{◌≡◌, ◌⊎◌, ◌↔◌, inl, inr, ℕ, ze
 use Rattle.process_laws.specs.Insensitive.{Insensitive}
 use Rattle.trace_laws.specs.Breaks.{Breaks, LeastBroken}
 use Rattle.trace_laws.specs.Listed.{numbers, symbol}
+use Rattle.std.specs.List.{Contains}
 use Rattle.trace_laws.specs.Mirror.Improved.{LeastOf}
+use Rattle.trace_laws.specs.Mirror.Links.{Closed}
+use Rattle.trace_laws.proofs.Members.{decided}
 use Rattle.trace_laws.proofs.Offers.{below_or}
 
 pub numbers_of_symbols : (xs : List ℕ) → numbers (map symbol xs) ≡ xs
@@ -86,3 +89,7 @@ unbroken out T i (suc (suc (suc (suc (suc j))))) u b = b
 pub rule_more : (out : ℕ → Bool) (T : List ℕ → Type 0) (rule : ℕ) → LeastOf (Breaks out T rule) None
     → ((j : ℕ) → j < rule → (u : List ℕ) → Breaks out T j u → ⊥) → (j : ℕ) → j < rule + 1 → (u : List ℕ) → Breaks out T j u → ⊥
 rule_more out T rule l f j h = elim (below_or j rule h) [ inl k ↦ f j k | inr e ↦ λ u b. l u (subst (λ i. Breaks out T i u) e b) ]
+
+-- where no beginning is missing, the front of each listed trace is listed
+pub kept_closed : (out : ℕ → Bool) (W : List (List ℕ)) → ((u : List ℕ) → Breaks out (Contains W) 0 u → ⊥) → Closed W
+kept_closed out W kept s a h = elim (decided W s) [ inl g ↦ g | inr f ↦ absurd (kept s (record { missing = f; begins = inr (a ∷ [], h) })) ]

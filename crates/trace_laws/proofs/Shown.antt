@@ -9,7 +9,7 @@ use Rattle.trace_laws.specs.Mirror.Improved.{NotBefore, Improved, LeastOf}
 use Rattle.trace_laws.proofs.Offers.{later_offers, none_offered, below_or}
 use Rattle.trace_laws.specs.Mirror.Faults.{exchanged, SwapAt, CarryAt, front, last_of, EndsTwice, BeginsAt, SwapsOf, CarriesOf, TwiceOf, BothAt, BothOf, OfEach}
 
-split_two : (x : List ℕ) (p : ℕ) → p + 1 < length x → x ≡ take p x ++ (get_or x p 0 ∷ (get_or x (p + 1) 0 ∷ drop (p + 2) x))
+pub split_two : (x : List ℕ) (p : ℕ) → p + 1 < length x → x ≡ take p x ++ (get_or x p 0 ∷ (get_or x (p + 1) 0 ∷ drop (p + 2) x))
 split_two x p l =
     let one : p < length x = omega (arith, l) in
     let e : p + 1 + 1 ≡ p + 2 = omega arith in
@@ -28,7 +28,7 @@ module _ (s : List ℕ) (a b : ℕ) (u : List ℕ) where
   rest_at : drop (length s + 2) (s ++ (a ∷ (b ∷ u))) ≡ u
   rest_at = sym (drop-drop 2 (length s) (s ++ (a ∷ (b ∷ u)))) ∙ ap (drop 2) (drop_at s (a ∷ (b ∷ u)) (length s) refl)
 
-  exchanged_at : exchanged (s ++ (a ∷ (b ∷ u))) (length s) ≡ s ++ (b ∷ (a ∷ u))
+  pub exchanged_at : exchanged (s ++ (a ∷ (b ∷ u))) (length s) ≡ s ++ (b ∷ (a ∷ u))
   exchanged_at = λ i. take_at s (a ∷ (b ∷ u)) (length s) refl i ++ (second_at i ∷ (first_at i ∷ rest_at i))
 
   within_at : length s + 1 < length (s ++ (a ∷ (b ∷ u)))

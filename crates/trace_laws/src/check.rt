@@ -6,6 +6,7 @@ ghost use Rattle.process_laws.specs.Insensitive.{Insensitive};
 ghost use Rattle.trace_laws.specs.Breaks.{Breaks, LeastBroken};
 ghost use Rattle.trace_laws.specs.Listed.{Listed, numbers, output_by};
 ghost use Rattle.trace_laws.specs.Mirror.Improved.{LeastOf};
+ghost use Rattle.trace_laws.specs.Mirror.Links.{Closed};
 
 use crate::faults::{least_beginning, least_both, least_carry, least_swap, least_twice};
 use crate::words::{Word, WordSet};
@@ -68,7 +69,8 @@ fn least_fault(
     dirs: &[Dir],
     rule: u8,
 ) -> Result<Option<Word>, AllocError>
-    requires { rule < 5 }
+    requires rule { rule < 5 }
+    requires closed { 0 < rule → Closed words.now }
     ensures { IfOk result (λ least. LeastOf (Breaks (output_by dirs.now) (Contains words.now) rule) least) }
 {
     match rule {

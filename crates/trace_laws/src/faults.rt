@@ -1,29 +1,34 @@
 //! The least trace at which each of the rules is broken.
-ghost use Rattle.std.specs.Prelude.{◌≡◌, ◌≢◌, ◌↔◌, ◌<◌, [], length, IfOk, IsTrue};
+ghost use Rattle.std.specs.Prelude.{◌≡◌, ◌≢◌, ◌↔◌, ◌<◌, ℕ, List, [], Some, length, IfOk, IsTrue};
+ghost use Rattle.std.specs.BTreeMap.{get};
 ghost use Rattle.std.specs.List.{Contains};
 ghost use Rattle.trace_laws.specs.Breaks.{MissingBeginning, TwiceInARow, MissingSwap, MissingCarry, MissingBoth};
 ghost use Rattle.trace_laws.specs.Listed.{output_by};
 ghost use Rattle.trace_laws.specs.Mirror.Faults.{BeginsAt, EndsTwice, TwiceOf, BothAt, BothOf, front, last_of};
 ghost use Rattle.trace_laws.specs.Mirror.Improved.{Improved, LeastOf};
+ghost use Rattle.trace_laws.specs.Mirror.Links.{find, key_cmp, Closed, Follow};
 
 use crate::followers::offer_lacking;
 use crate::least::offer;
+use crate::links::{Links, listed_size, longer_traces};
 use crate::places::{is_output, offer_carries, offer_missing, offer_swaps};
 use crate::words::{Word, WordSet};
 use cmd_tree::Dir;
 use std::alloc::{AllocError, Global};
+use std::collections::BTreeMap;
 
 /// The least missing beginning of a listed trace.
 pub(crate) fn least_beginning(alloc: Global, words: &WordSet) -> Result<Option<Word>, AllocError>
     ensures { IfOk result (λ least. LeastOf (MissingBeginning (Contains words.now)) least) }
 {
     let empty = Word::of(alloc, &[])?;
-    if !words.has(&empty) {
+    let Some(root) = words.place(&empty) else {
         return Ok(Some(empty));
-    }
+    };
+    let longer = longer_traces(alloc, words)?;
     let mut least = None;
     for word in words.as_slice() {
-        least = offer_beginning(alloc, words, word, least)?;
+        least = offer_beginning(alloc, &longer, root, word, least)?;
     }
     Ok(least)
 }
@@ -31,17 +36,18 @@ pub(crate) fn least_beginning(alloc: Global, words: &WordSet) -> Result<Option<W
 // The shortest missing beginning of a trace is offered: the others of that trace are longer.
 fn offer_beginning(
     alloc: Global,
-    words: &WordSet,
+    longer: &BTreeMap<(usize, u32), usize>,
+    root: usize,
     word: &Word,
     least: Option<Word>,
 ) -> Result<Option<Word>, AllocError>
-    ensures { IfOk result (λ now. Improved (BeginsAt words.now word.now) least now) }
+    ensures { (W : List (List ℕ)) → Follow W (length W) (get key_cmp longer.now) → find W [] ≡ Some root
+        → IfOk result (λ now. Improved (BeginsAt W word.now) least now) }
 {
-    for size in 0..word.symbols().len() {
+    let size = listed_size(longer, root, word);
+    if size < word.symbols().len() {
         let front = word.front(alloc, size)?;
-        if !words.has(&front) {
-            return Ok(offer(least, front));
-        }
+        return Ok(offer(least, front));
     }
     Ok(least)
 }
@@ -83,11 +89,13 @@ pub(crate) fn least_swap(
     words: &WordSet,
     dirs: &[Dir],
 ) -> Result<Option<Word>, AllocError>
+    requires { Closed words.now }
     ensures { IfOk result (λ least. LeastOf (MissingSwap (output_by dirs.now) (Contains words.now)) least) }
 {
+    let links = Links::of(alloc, words)?;
     let mut least = None;
     for word in words.as_slice() {
-        least = offer_swaps(alloc, words, dirs, word, least)?;
+        least = offer_swaps(alloc, words, &links, dirs, word, least)?;
     }
     Ok(least)
 }
@@ -98,11 +106,13 @@ pub(crate) fn least_carry(
     words: &WordSet,
     dirs: &[Dir],
 ) -> Result<Option<Word>, AllocError>
+    requires { Closed words.now }
     ensures { IfOk result (λ least. LeastOf (MissingCarry (output_by dirs.now) (Contains words.now)) least) }
 {
+    let links = Links::of(alloc, words)?;
     let mut least = None;
     for word in words.as_slice() {
-        least = offer_carries(alloc, words, dirs, word, least)?;
+        least = offer_carries(alloc, words, &links, dirs, word, least)?;
     }
     Ok(least)
 }

@@ -9,6 +9,7 @@ mod faults;
 mod followers;
 mod laws;
 mod least;
+mod links;
 mod list;
 mod pieces;
 mod places;

@@ -10,6 +10,7 @@ ghost use Rattle.std.proofs.Common.{rules};
 ghost use Rattle.trace_laws.specs.Breaks.{Precedes};
 ghost use Rattle.trace_laws.specs.Listed.{Listed, numbers, symbol};
 ghost use Rattle.trace_laws.specs.Mirror.Faults.{exchanged};
+ghost use Rattle.trace_laws.specs.Mirror.Links.{find};
 
 use cmd_tree::Sym;
 use indexmap::IndexSet;
@@ -161,6 +162,13 @@ impl WordSet {
         ensures { IsTrue result ↔ Contains self.now word.now }
     {
         self.set.contains(word)
+    }
+
+    /// Where the trace is listed.
+    pub(crate) fn place(&self, word: &Word) -> Option<usize>
+        ensures { result ≡ find self.now word.now }
+    {
+        self.set.get_index_of(word)
     }
 
     pub(crate) fn as_slice(&self) -> &[Word]

@@ -1,4 +1,4 @@
-use Rattle.std.proofs.Common.{IfOk, sym, subst}
+use Rattle.std.proofs.Common.{IfOk, sym, subst, arith}
 use Rattle.std.specs.List.{Contains}
 use Rattle.trace_laws.specs.Breaks.{Breaks}
 use Rattle.trace_laws.specs.Listed.{output_by}
@@ -16,3 +16,9 @@ returns-in-2 c = subst (λ r. IfOk c.least_swap.result (λ least. LeastOf (Break
 
 pub returns-in-3 : goal.returns-in-3
 returns-in-3 c = subst (λ r. IfOk c.least_carry.result (λ least. LeastOf (Breaks (output_by c.args.dirs.now) (Contains c.args.words.now) r) least)) (sym c.in-3.is) c.least_carry.ensures
+
+pub least_swap-requires : goal.least_swap-requires
+least_swap-requires c = c.requires.closed (omega (arith, c.in-2.is))
+
+pub least_carry-requires : goal.least_carry-requires
+least_carry-requires c = c.requires.closed (omega (arith, c.in-3.is))
