@@ -42,6 +42,10 @@ fn compiles_processes(rt: HostRuntime) -> Result<(), Fail> {
             "pref*[a?;b!;a?;b!;a?;c!]",
             "port a? 0\nport b! 1\nport c! 2\nDW 3 1 0.0 1.0 2.0 : 11 7 9 0 > 3 4 5\nFORK 3 > 6 7\nFORK 4 > 8 9\nFORK 5 > 2 10\nMERGE 6 8 > 1\nIWIRE 10 > 11\nend\n",
         ),
+        (
+            "pref*[coin?;ok!;(tea?;cup!|coffee?;mug!)]",
+            "port coin? 0\nport ok! 1\nport tea? 2\nport cup! 3\nport coffee? 4\nport mug! 5\nC 13 0 > 6\nDW 1 2 0.0 0.1 : 9 2 4 > 7 8\nFORK 6 > 1 9\nFORK 7 > 3 10\nFORK 8 > 5 11\nMERGE 10 11 > 12\nIWIRE 12 > 13\nend\n",
+        ),
     ];
     for (command, lines) in rows {
         let text = format!(in alloc; "main := {command}.")?;
