@@ -4,7 +4,10 @@ use Rattle.std.specs.declared.cmp.Ordering.{Ordering}
 use Rattle.std.specs.declared.cmp.Ordering.TheVariants.{Less, Equal, Greater}
 use Rattle.std.specs.Ordering.{nat_cmp, ordering_then, is_eq, is_lt, ord_max}
 use Rattle.std.proofs.lemmas.Bool.{cases_lt}
+use Rattle.std.proofs.lemmas.Cmp.{nat_cmp_total, tied_itself}
 use Rattle.std.proofs.lemmas.List.{length-map, take_more}
+use Rattle.std.proofs.lemmas.Map.Lookups.{exact_pairs, exact_unsigned}
+use Rattle.std.proofs.lemmas.Map.Views.{tells_apart}
 use Rattle.std.proofs.lemmas.Option.{slice_get_within}
 use Rattle.cmd_tree.specs.declared.tree.Mark.{Mark}
 use Rattle.cmd_tree.specs.Meaning.{symbols}
@@ -16,37 +19,11 @@ use Rattle.cmd_machine.specs.Mirror.Positions.{Key, key_cmp, SpotOf, Finds, OfLe
 
 -- ---- equal keys
 
-compared : (x y : ℕ) → ((x ≡ y) × (nat_cmp x y ≡ Equal)) ⊎ ((x ≡ y → ⊥) × (is_eq (nat_cmp x y) ≡ false))
-compared x y = by (nat_cmp x y) (grind arith)
-  where
-    by : (o : Ordering) → ((x < y) × (o ≡ Less)) ⊎ (((x ≡ y) × (o ≡ Equal)) ⊎ ((y < x) × (o ≡ Greater)))
-        → ((x ≡ y) × (o ≡ Equal)) ⊎ ((x ≡ y → ⊥) × (is_eq o ≡ false))
-    by o (inl h) = inr (λ e. omega (arith, h.0, e), ap is_eq h.1)
-    by o (inr (inl h)) = inl h
-    by o (inr (inr h)) = inr (λ e. omega (arith, h.0, e), ap is_eq h.1)
-
-then_eq : (o p : Ordering) → is_eq o ≡ false → is_eq (ordering_then o p) ≡ false
-then_eq Less p e = refl
-then_eq Equal p e = absurd (true≢false e)
-then_eq Greater p e = refl
-
 pub key_same : (k q : Key) → is_eq (key_cmp k q) ≡ true → k ≡ q
-key_same (a, x) (b, y) h = ⊎_elim
-    (λ u. ⊎_elim
-    (λ v. ap (λ z. (z, x)) u.0 ∙ ap (λ z. (b, z)) v.0)
-    (λ v. absurd (true≢false (sym h ∙ ap (λ o. is_eq (ordering_then o (nat_cmp x y))) u.1 ∙ v.1)))
-    (compared x y))
-    (λ u. absurd (true≢false (sym h ∙ then_eq (nat_cmp a b) (nat_cmp x y) u.1)))
-    (compared a b)
+key_same k q h = tells_apart {R = key_cmp} (exact_pairs nat_cmp nat_cmp exact_unsigned exact_unsigned) k q h
 
 pub key_self : (k : Key) → is_eq (key_cmp k k) ≡ true
-key_self (a, x) = ⊎_elim
-    (λ u. ⊎_elim
-    (λ v. ap (λ o. is_eq (ordering_then o (nat_cmp x x))) u.1 ∙ ap is_eq v.1)
-    (λ v. absurd (v.0 refl))
-    (compared x x))
-    (λ u. absurd (u.0 refl))
-    (compared a a)
+key_self (a, x) = ap (λ o. is_eq (ordering_then o (nat_cmp x x))) (tied_itself nat_cmp_total a) ∙ ap is_eq (tied_itself nat_cmp_total x)
 
 -- ---- one mark more
 
