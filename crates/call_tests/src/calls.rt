@@ -96,10 +96,10 @@ const CALLS: [(&str, Option<&str>, &str, &str, u8); 13] = [
     ),
     (
         "compile wide F",
-        Some("main := pref*[a?;c!]||pref*[b?;c!]."),
+        Some("let w := pref*[a?;b!]. main := w[x/a]||w[z/a]."),
+        "dinet 1\nspec pref*[x?;b!]||pref*[z?;b!]\nport x? 0\nport b! 1\nport z? 2\nWIRE 0 > 3\nWIRE 2 > 4\nC 3 4 > 1\nend\n",
         "",
-        "refused form\n",
-        1,
+        0,
     ),
     ("compile wide F", None, "", "read fault 1\n", 3),
     (
@@ -354,7 +354,7 @@ pub fn repeated(
 }
 
 // Processes that take a symbol of their own and give another, woven.
-fn many_processes(alloc: Global, many: u32, inputs: u32) -> Result<String, Fail> {
+pub fn many_processes(alloc: Global, many: u32, inputs: u32) -> Result<String, Fail> {
     let mut text = String::from_str(alloc, "main := ")?;
     for process in 0..many {
         if process > 0 {

@@ -1,7 +1,8 @@
-//! Whole calls that compile one process.
-use crate::calls::{Ran, call, repeated};
+//! Whole calls that compile: one process, and weaves of several.
+use crate::calls::{Ran, call, many_processes, repeated};
 use di_top::Outcome;
 use std::alloc::Global;
+use std::process::Abort;
 use std::test::Fail;
 
 fn compile(alloc: Global, text: &str) -> Result<Ran, Fail> {
@@ -9,9 +10,20 @@ fn compile(alloc: Global, text: &str) -> Result<Ran, Fail> {
 }
 
 // Commands, and what their netlists have behind the line of the command.
+fn compile_each(rt: &impl Abort, alloc: Global, rows: &[(&str, &str)]) -> Result<(), Fail> {
+    for (command, lines) in rows {
+        let text = format!(in alloc; "main := {command}.")?;
+        let ran = compile(alloc, text.as_str())?;
+        let netlist = format!(in alloc; "dinet 1\nspec {command}\n{lines}")?;
+        assert!(rt; ran.out.bytes() == netlist.as_bytes(), "{command}");
+        assert!(rt; ran.say.bytes().is_empty(), "{command}");
+        assert_eq!(rt; ran.outcome, Outcome::Done);
+    }
+    Ok(())
+}
+
 #[test]
 fn compiles_processes(rt: HostRuntime) -> Result<(), Fail> {
-    let alloc = rt.alloc();
     let rows = [
         (
             "pref*[a?;b!;a?;c!]",
@@ -47,14 +59,44 @@ fn compiles_processes(rt: HostRuntime) -> Result<(), Fail> {
             "port coin? 0\nport ok! 1\nport tea? 2\nport cup! 3\nport coffee? 4\nport mug! 5\nC 13 0 > 6\nDW 1 2 0.0 0.1 : 9 2 4 > 7 8\nFORK 6 > 1 9\nFORK 7 > 3 10\nFORK 8 > 5 11\nMERGE 10 11 > 12\nIWIRE 12 > 13\nend\n",
         ),
     ];
-    for (command, lines) in rows {
-        let text = format!(in alloc; "main := {command}.")?;
-        let ran = compile(alloc, text.as_str())?;
-        let netlist = format!(in alloc; "dinet 1\nspec {command}\n{lines}")?;
-        assert!(rt; ran.out.bytes() == netlist.as_bytes(), "{command}");
-        assert!(rt; ran.say.bytes().is_empty(), "{command}");
-        assert_eq!(rt; ran.outcome, Outcome::Done);
-    }
+    compile_each(&rt, rt.alloc(), &rows)
+}
+
+#[test]
+fn compiles_weaves(rt: HostRuntime) -> Result<(), Fail> {
+    let rows = [
+        (
+            "pref*[a?;c!]||pref*[b?;c!]",
+            "port a? 0\nport c! 1\nport b? 2\nWIRE 0 > 3\nWIRE 2 > 4\nC 3 4 > 1\nend\n",
+        ),
+        (
+            "pref*[a?;b!]||pref*[a?;c!]",
+            "port a? 0\nport b! 1\nport c! 2\nFORK 0 > 3 4\nWIRE 3 > 1\nWIRE 4 > 2\nend\n",
+        ),
+        (
+            "pref*[a?;b!;a?;d!]||pref*[c?;d!]",
+            "port a? 0\nport b! 1\nport d! 2\nport c? 3\nTOGGLE 0 > 1 4\nWIRE 3 > 5\nC 4 5 > 2\nend\n",
+        ),
+        (
+            "pref*[a?;p!]||pref*[b?;q!]||pref*[n?;(p!|q!)]",
+            "port a? 0\nport p! 1\nport b? 2\nport q! 3\nport n? 4\nWIRE 0 > 5\nWIRE 2 > 6\nSEQ 5 6 4 > 1 3\nend\n",
+        ),
+        (
+            "pref*[a?;p!;c?;e!]||pref*[b?;q!;d?;f!]||pref*[p!;c?|q!;d?]",
+            "port a? 0\nport p! 1\nport c? 2\nport e! 3\nport b? 4\nport q! 5\nport d? 6\nport f! 7\nC 24 0 > 8\nFORK 2 > 9 10\nC 25 4 > 11\nFORK 6 > 12 13\nFORK 8 > 14 15\nC 15 9 > 16\nMERGE 10 13 > 17\nFORK 11 > 18 19\nC 19 12 > 20\nSEQ 14 18 22 > 1 5\nFORK 16 > 3 21\nIWIRE 17 > 22\nFORK 20 > 7 23\nIWIRE 21 > 24\nIWIRE 23 > 25\nend\n",
+        ),
+    ];
+    compile_each(&rt, rt.alloc(), &rows)
+}
+
+// As many processes as there may be: a WIRE for each.
+#[test]
+fn compiles_many_processes(rt: HostRuntime) -> Result<(), Fail> {
+    let alloc = rt.alloc();
+    let text = many_processes(alloc, 256, 0)?;
+    let ran = compile(alloc, text.as_str())?;
+    assert_eq!(rt; ran.outcome, Outcome::Done);
+    assert_eq!(rt; lines_of(ran.out.bytes(), b"WIRE "), 256);
     Ok(())
 }
 

@@ -1,24 +1,19 @@
--- A command of one process: it is no grant, and its sums are those of the process.
-use Rattle.std.proofs.Common.{◌≡◌, inl, inr, ℕ, ◌+◌, ◌<◌, Bool, true, false, true≢false, List, [], ◌∷◌, ◌++◌, length, map, Option, Some, None, refl, sym, ap, subst, arith, if◌then◌else◌}
-use Rattle.std.specs.Prelude.{not, ◌&&◌}
-use Rattle.std.specs.List.{range_with_len}
+-- A command of one process: it is no grant, and what is counted of its processes is counted of it.
+use Rattle.std.proofs.Common.{◌≡◌, inl, inr, ℕ, ◌<◌, false, List, [], ◌∷◌, ◌++◌, length, sym, ap, subst, arith, if◌then◌else◌}
 use Rattle.std.proofs.lemmas.Bool.{cases_Bool}
 use Rattle.cmd_tree.specs.declared.tree.Proc.{Proc}
-use Rattle.cmd_tree.specs.Limits.{marks_of_proc}
-use Rattle.cmd_tree.specs.Meaning.{has_symbol}
 use Rattle.process_laws.specs.GrantForms.{Giving, granted_of}
-use Rattle.basic_kinds.specs.Sorts.{Sort, Forks, Joins}
-use Rattle.basic_kinds.specs.Sums.{Counted, Wide, wide_sum, total_of}
+use Rattle.basic_kinds.specs.Sorts.{Sort}
+use Rattle.basic_kinds.specs.Sums.{wide_sum, total_of}
 use Rattle.di_grammar.specs.Lists.{Each, Within}
 use Rattle.di_grammar.specs.Grants.{Gift, gifts_from, Grants, IsGrant}
 use Rattle.di_grammar.specs.Homes.{HasHome, IsElsewhere}
-use Rattle.di_grammar.specs.Outputs.{out_of}
 use Rattle.di_grammar.specs.Admitted.{Admitted}
-use Rattle.di_grammar.specs.Sums.{ring, is_ring, grants, standing, made, meeting, ring_or_none, rings, woven}
+use Rattle.di_grammar.specs.Sums.{grants}
 use Rattle.di_grammar.proofs.SumGrants.{grants_are}
 use Rattle.place_graph.specs.Graph.{graph_of}
-use Rattle.place_graph.specs.Sums.{counted, processes, command_sum}
-use Rattle.plain_split.proofs.SharedSums.{total_append, so_none}
+use Rattle.place_graph.specs.Sums.{counted, processes}
+use Rattle.plain_split.proofs.SharedSums.{total_append}
 
 -- ---- no grant
 
@@ -61,35 +56,9 @@ no_ring p other = elim (cases_Bool (grants p)) [
   | inr none ↦ none
 ]
 
-narrow : (s t : Sort) (b : Bool) → wide_sum (Wide s ((if b then 1 else 0) + 0)) t ≡ 0
-narrow s t true = so_none s t
-narrow s t false = so_none s t
-
-meeting_none : (p : Proc) (a : ℕ) (t : Sort) → wide_sum (meeting (p ∷ []) a) t ≡ 0
-meeting_none p a t = by (out_of (p ∷ []) a)
-  where
-    by : (b : Bool) → wide_sum (if b then Wide Joins (made (p ∷ []) a) else Wide Forks (standing (p ∷ []) a)) t ≡ 0
-    by true = narrow Joins t (has_symbol (marks_of_proc p) a && not (grants p))
-    by false = narrow Forks t (has_symbol (marks_of_proc p) a)
-
-meetings_none : (p : Proc) (t : Sort) (xs : List ℕ) → total_of wide_sum (map (meeting (p ∷ [])) xs) t ≡ 0
-meetings_none p t [] = refl
-meetings_none p t (a ∷ xs) = omega (arith, meeting_none p a t, meetings_none p t xs)
-
-rings_none : (p : Proc) → grants p ≡ false → rings (p ∷ []) ≡ []
-rings_none p none = by (ring p) none
-  where
-    by : (o : Option (List Counted)) → is_ring o ≡ false → ring_or_none o ++ [] ≡ []
-    by None e = refl
-    by (Some xs) e = absurd (true≢false e)
-
-pub one_sum : (p : Proc) (names : ℕ) (t : Sort) → (IsGrant p → ⊥) → command_sum wide_sum (p ∷ []) names t ≡ total_of wide_sum (counted (graph_of p) names) t
-one_sum p names t other = omega (
+pub one_counted : (p : Proc) (names : ℕ) (t : Sort) → (IsGrant p → ⊥) → total_of wide_sum (processes (p ∷ []) names) t ≡ total_of wide_sum (counted (graph_of p) names) t
+one_counted p names t other = omega (
   arith,
-  total_append wide_sum (woven (p ∷ []) names) (processes (p ∷ []) names) t,
-  total_append wide_sum (map (meeting (p ∷ [])) (range_with_len 0 names)) (rings (p ∷ [])) t,
-  meetings_none p t (range_with_len 0 names),
-  ap (λ xs. total_of wide_sum xs t) (rings_none p (no_ring p other)),
   ap (λ b. total_of wide_sum ((if b then [] else counted (graph_of p) names) ++ []) t) (no_ring p other),
   total_append wide_sum (counted (graph_of p) names) [] t,
 )

@@ -1,5 +1,5 @@
 -- Which commands are compiled, and what is promised of their networks.
-use Rattle.std.specs.Prelude.{◌≡◌, ℕ, ◌<◌, ◌^◌, List, [], ◌∷◌, drop, length, ⊤}
+use Rattle.std.specs.Prelude.{◌≡◌, ℕ, ◌<◌, ◌^◌, List, drop, length, ⊤}
 use Rattle.cmd_tree.specs.declared.tree.Proc.{Proc}
 use Rattle.cmd_tree.specs.declared.command.Command.{Command}
 use Rattle.basic_kinds.specs.Sorts.{Sort, how_many}
@@ -17,13 +17,10 @@ use Rattle.di_compile.specs.declared.build.Basis.TheVariants.{Wide}
 use Rattle.di_compile.specs.declared.refusal.CompileRefusal.{CompileRefusal}
 use Rattle.di_compile.specs.declared.refusal.CompileRefusal.TheVariants.{Broken, NotThisForm, NoMemory}
 
--- A network of these processes is built in this basis: they are an admitted command of one process, and the basis
--- is wide.
+-- A network of these processes is built in this basis: they are an admitted command, and the basis is wide.
 pub record IsBuilt (basis : Basis) (ps : List Proc) : Type 0 where
   pub wide : basis ≡ Wide
   pub admitted : Admitted ps
-  pub process : Proc
-  pub alone : ps ≡ process ∷ []
 
 -- how many components of the sort the network has
 abbrev pub number_of : Circuit → Sort → ℕ

@@ -1,21 +1,21 @@
 //! The network of a command.
-ghost use Rattle.std.specs.Prelude.{◌≡◌, ◌<◌, ◌^◌, [], ◌∷◌, IfOk, IfErr};
+ghost use Rattle.std.specs.Prelude.{drop, IfOk, IfErr};
 ghost use Rattle.di_grammar.specs.Admitted.{Admitted};
-ghost use Rattle.place_graph.specs.Graph.{graph_of};
-ghost use Rattle.plain_split.specs.PlainNet.{HasCounted};
-ghost use Rattle.net_core.specs.declared.spec.NodeSpec.TheVariants.{Cmd};
 ghost use Rattle.net_core.specs.Wiring.{IsClosed};
-ghost use Rattle.net_laws.specs.Implementing.{Implements};
+ghost use Rattle.weave_split.specs.WeaveParts.{IsProcess, IsKindOrProcess, AreParts};
 ghost use Rattle.di_compile.specs.Compiling.{IsBuilt, IsInOrderOf, IsNetworkOf, IsRefused};
+ghost use Rattle.di_compile.specs.Mirror.InPlaces.{IsProcessNet, IsInPlace, AreInPlaces};
 
 use crate::refusal::CompileRefusal;
-use cmd_tree::{Command, Proc};
+use cmd_tree::Command;
 use di_grammar::check;
-use net_core::{Net, order};
-use place_graph::{SplitStyle, WaitGraph, graph, style};
+use net_core::{Net, NodeSpec, order};
+use place_graph::{SplitStyle, graph, style};
 use plain_split::plain_net;
 use std::alloc::{AllocError, Global};
+use substitute::splice_all;
 use token_split::token_net;
+use weave_split::weave_net;
 
 /// Of which components a network is made.
 #[derive(Debug, Clone, Copy, PartialEq, Eq)]
@@ -29,9 +29,9 @@ pub enum Basis {
 /// The network of a command, in walk order: closed, of basic components, correct for the command, with as
 /// many components of each kind as the sums of the command say, and with symbol i on wire i.
 ///
-/// A command that breaks a rule is refused with the answer of `check`; an admitted one of which no network is
-/// built is `NotThisForm`: all but, in the basis wide, those of one process. Time and memory grow with the places
-/// of the command and the wires of its network.
+/// A command that breaks a rule is refused with the answer of `check`; in the basis two no network is built today,
+/// and an admitted command is `NotThisForm`. Time and memory grow with the places of the command and the wires of its
+/// network.
 pub fn compile(alloc: Global, command: &Command, basis: Basis) -> Result<Net, CompileRefusal>
     ensures ok { IfOk result (λ net. IsBuilt basis command.now.procs × IsNetworkOf command.now net) }
     ensures refused { IfErr result (IsRefused basis command.now.procs) }
@@ -40,51 +40,56 @@ pub fn compile(alloc: Global, command: &Command, basis: Basis) -> Result<Net, Co
         return Err(CompileRefusal::Broken(broken));
     }
     match basis {
-        Basis::Wide => compile_wide(alloc, command),
+        Basis::Wide => Ok(compile_wide(alloc, command)?),
         Basis::Two => Err(CompileRefusal::NotThisForm),
     }
 }
 
-fn compile_wide(alloc: Global, command: &Command) -> Result<Net, CompileRefusal>
+/// The network of the weave, with the network of each process in its place.
+fn compile_wide(alloc: Global, command: &Command) -> Result<Net, AllocError>
     requires { Admitted command.now.procs }
-    ensures ok { IfOk result (λ net. IsBuilt Basis.Wide command.now.procs × IsNetworkOf command.now net) }
-    ensures refused { IfErr result (IsRefused Basis.Wide command.now.procs) }
+    ensures { IfOk result (λ net. IsNetworkOf command.now net) }
 {
-    match command.procs.as_slice() {
-        [process] => compile_process(alloc, command, process),
-        _ => Err(CompileRefusal::NotThisForm),
+    let weave = weave_net(alloc, command)?;
+    let parts = part_nets(alloc, &weave)?;
+    let whole = splice_all(alloc, &weave, parts.as_slice())?;
+    in_order(alloc, whole)
+}
+
+/// What takes the places of the components: of a process its network, and of a kind nothing.
+fn part_nets(alloc: Global, weave: &Net) -> Result<Vec<Option<Net>>, AllocError>
+    requires { AreParts (drop 1 weave.now.nodes) }
+    ensures { IfOk result (λ it. AreInPlaces (drop 1 weave.now.nodes) it.items) }
+{
+    let mut parts = Vec::new(alloc);
+    for node in 1..weave.nodes.len() {
+        parts.push(part_net(alloc, &weave.nodes[node].spec)?)?;
+    }
+    Ok(parts)
+}
+
+fn part_net(alloc: Global, spec: &NodeSpec) -> Result<Option<Net>, AllocError>
+    requires { IsKindOrProcess spec.now }
+    ensures { IfOk result (λ it. IsInPlace spec.now it) }
+{
+    match spec {
+        NodeSpec::Kind(_) => Ok(None),
+        NodeSpec::Cmd(process) => {
+            let net = process_net(alloc, process)?;
+            Ok(Some(net))
+        }
     }
 }
 
-// Of a command of this process alone.
-fn compile_process(alloc: Global, command: &Command, process: &Proc) -> Result<Net, CompileRefusal>
-    requires admitted { Admitted command.now.procs }
-    requires alone { command.now.procs ≡ process.now ∷ [] }
-    ensures ok { IfOk result (λ net. IsBuilt Basis.Wide command.now.procs × IsNetworkOf command.now net) }
-    ensures refused { IfErr result (IsRefused Basis.Wide command.now.procs) }
+/// The network of one process, with a token where it needs one.
+fn process_net(alloc: Global, command: &Command) -> Result<Net, AllocError>
+    requires { IsProcess command.now }
+    ensures { IfOk result (IsProcessNet command.now) }
 {
-    let graph = graph(alloc, process)?;
-    let net = process_net(alloc, command, process, &graph)?;
-    Ok(in_order(alloc, net)?)
-}
-
-/// The network of the process, with a token where it needs one.
-fn process_net(
-    alloc: Global,
-    command: &Command,
-    process: &Proc,
-    graph: &WaitGraph,
-) -> Result<Net, AllocError>
-    requires admitted { Admitted command.now.procs }
-    requires alone { command.now.procs ≡ process.now ∷ [] }
-    requires graph { graph.now ≡ graph_of process.now }
-    ensures right { IfOk result (λ net. Implements net (Cmd command.now)) }
-    ensures few { IfOk result (λ net. net.wires < 2 ^ 20) }
-    ensures kinds { IfOk result (HasCounted command.now process.now) }
-{
-    match style(graph) {
-        SplitStyle::Token => token_net(alloc, command, graph),
-        SplitStyle::OneWait | SplitStyle::Rounds(_) => plain_net(alloc, command, graph),
+    let graph = graph(alloc, &command.procs.as_slice()[0])?;
+    match style(&graph) {
+        SplitStyle::Token => token_net(alloc, command, &graph),
+        SplitStyle::OneWait | SplitStyle::Rounds(_) => plain_net(alloc, command, &graph),
     }
 }
 

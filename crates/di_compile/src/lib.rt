@@ -1,7 +1,7 @@
 //! From a command to its network.
 //!
-//! `compile` checks the command, builds the network of its process, and puts it in walk order. Today it
-//! builds commands of one process, in the basis wide.
+//! `compile` checks the command, builds the network of its weave, puts the network of each process in its
+//! place, and puts the whole in walk order. Today it builds in the basis wide.
 #![tactic(auto)]
 
 mod build;

@@ -4,16 +4,9 @@ use Rattle.std.specs.Prelude.{◌⊎◌, Ok, Err, Result}
 use Rattle.cmd_tree.specs.declared.command.Command.{Command}
 use Rattle.cmd_tree.specs.declared.tree.Proc.{Proc}
 use Rattle.net_core.specs.Wiring.{Circuit}
-use Rattle.di_grammar.specs.Admitted.{Admitted}
-use Rattle.di_grammar.proofs.Answering.{broken_not_admitted}
-use Rattle.di_grammar.specs.declared.answer.Broken.{Broken}
-use Rattle.di_compile.specs.declared.build.Basis.TheVariants.{Wide}
-use Rattle.di_compile.specs.declared.refusal.CompileRefusal.{CompileRefusal}
-use Rattle.di_compile.specs.declared.refusal.CompileRefusal.TheVariants as breaks
-use Rattle.di_compile.specs.Compiling.{IsNetworkOf, IsRefused}
+use Rattle.di_compile.specs.Compiling.{IsNetworkOf}
 use Rattle.di_top.specs.declared.outcome.Outcome.{Outcome}
-use Rattle.di_top.specs.declared.outcome.Outcome.TheVariants.{Done, Refused, NoMemory}
-use Rattle.di_top.specs.declared.outcome.Why.TheVariants.{NotThisForm}
+use Rattle.di_top.specs.declared.outcome.Outcome.TheVariants.{Done, NoMemory}
 use Rattle.net_text.specs.NetText.{net_text}
 use Rattle.di_top.specs.Requests.{CompileWide, Check}
 use Rattle.di_top.specs.Calls.{Reading, Loaded}
@@ -27,21 +20,13 @@ use Rattle.di_top.proofs.Stops.{stops_are_stops}
 pub compile_done : (r : Reading) (file : List ℕ) (command : Command) (net : Circuit) → FileHolds r file command.names command.procs
     → Compiles command.procs × IsNetworkOf command net → Gives (Some (CompileWide file)) r Done × Prints (Some (CompileWide file)) r (net_text net)
 compile_done r file command net h (built, network) = (
-  inr (Taken command.names command.procs h (inl (built, refl))),
+  inr (Taken command.names command.procs h (built, refl)),
   record { command = command; held = h; compiles = built; netlist = record { net = net; network = network; is = refl } },
 )
 
--- an admitted command of which no network is built, or memory is missing
-pub not_built : (r : Reading) (file : List ℕ) (command : Command) → FileHolds r file command.names command.procs → (stop : Outcome)
-    → (stop ≡ NoMemory) ⊎ ((Compiles command.procs → ⊥) × (stop ≡ Refused NotThisForm)) → IsStop stop × Gives (Some (CompileWide file)) r stop
-not_built r file command h stop (inl e) = let P : Outcome → Type 0 = IsStop in (subst P (sym e) tt, inl e)
-not_built r file command h stop (inr (other, e)) =
-    let P : Outcome → Type 0 = IsStop in (subst P (sym e) tt, inr (Taken command.names command.procs h (inr (other, e))))
-
--- an admitted command breaks no rule
-pub no_rule : (procs : List Proc) (b : Broken) (r : CompileRefusal) (stop : Outcome) → Admitted procs → r ≡ breaks.Broken b → IsRefused Wide procs r
-    → (stop ≡ NoMemory) ⊎ ((Compiles procs → ⊥) × (stop ≡ Refused NotThisForm))
-no_rule procs b r stop admitted e refused = absurd (broken_not_admitted procs b (subst (IsRefused Wide procs) e refused) admitted)
+-- memory is missing
+pub no_memory : (r : Reading) (file : List ℕ) (stop : Outcome) → stop ≡ NoMemory → IsStop stop × Gives (Some (CompileWide file)) r stop
+no_memory r file stop e = let P : Outcome → Type 0 = IsStop in (subst P (sym e) tt, inl e)
 
 pub check_done : (r : Reading) (file : List ℕ) (command : Command) → FileHolds r file command.names command.procs
     → Gives (Some (Check file)) r Done × Prints (Some (Check file)) r (counts_text (counts_of command.names command.procs))

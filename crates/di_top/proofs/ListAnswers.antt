@@ -3,7 +3,6 @@ use Rattle.std.proofs.Common.{◌≡◌, ℕ, ◌≤◌, Bool, true, false, true
 use Rattle.std.specs.Prelude.{◌⊎◌, ◌↔◌, IsTrue, nat_eq}
 use Rattle.std.specs.List.{Contains}
 use Rattle.std.specs.Option.{IfSome}
-use Rattle.cmd_tree.specs.declared.tree.Sym.{Sym}
 use Rattle.cmd_tree.specs.declared.tree.Dir.{Dir}
 use Rattle.cmd_tree.specs.declared.limits.TheConstants.{MAX_FILE_BYTES}
 use Rattle.process_laws.specs.Insensitive.{Insensitive}
@@ -20,7 +19,7 @@ use Rattle.di_top.specs.declared.outcome.Why.TheVariants.{Traces}
 use Rattle.di_top.specs.Requests.{Rules}
 use Rattle.di_top.specs.Calls.{Reading, Loaded, Unread}
 use Rattle.di_top.specs.CommandFiles.{command_cap}
-use Rattle.di_top.specs.RulesForm.{told_of_traces, IsList, ListStops, TooLong, Faulty, FileLists, RulesGives, Unloaded, Stopped, Judged, RulesAdmits, broken_line, verdict_text, IsVerdict, Holds, Breaks, IsJudged}
+use Rattle.di_top.specs.RulesForm.{told_of_traces, IsList, ListStops, TooLong, Faulty, FileLists, RulesGives, Unloaded, Stopped, Judged, RulesAdmits, broken_line, verdict_text, Holds, Breaks, IsJudged}
 use Rattle.di_top.specs.Outcomes.{Gives, Prints}
 use Rattle.di_top.specs.Plans.{IsStop}
 use Rattle.di_top.proofs.Loads.{loaded_whole, whole_loaded, one_load}

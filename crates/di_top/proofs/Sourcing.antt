@@ -1,6 +1,5 @@
 -- Bytes are one text or have a fault, and a text means one thing.
 use Rattle.std.proofs.Common.{◌≡◌, ℕ, List, Err, Result, sym, ◌∙◌, ap}
-use Rattle.cmd_text.specs.declared.file.Sentence.{Sentence}
 use Rattle.cmd_text.specs.Source.{IsFaultOfBytes}
 use Rattle.cmd_text.specs.Fault.{Fault}
 use Rattle.cmd_text.specs.Scan.{Between, scan}

@@ -1,8 +1,7 @@
 -- What stops a command file, and what it gives, exclude one another.
-use Rattle.std.proofs.Common.{◌≡◌, ℕ, ◌≤◌, List, [], Some, Result, Ok, Err, refl, sym, ap, ◌∙◌, subst, inl, inr, arith, take, length}
+use Rattle.std.proofs.Common.{◌≡◌, ℕ, ◌≤◌, List, [], Some, Result, Ok, Err, refl, sym, ap, ◌∙◌, subst, inl, inr, arith, length}
 use Rattle.std.specs.Prelude.{◌⊎◌}
 use Rattle.std.specs.Option.{IfSome}
-use Rattle.std.proofs.lemmas.List.{take_all, length-take}
 use Rattle.cmd_tree.specs.declared.tree.Proc.{Proc}
 use Rattle.cmd_tree.specs.declared.limits.TheConstants.{MAX_FILE_BYTES}
 use Rattle.cmd_text.specs.declared.file.Sentence.{Sentence}
@@ -22,8 +21,7 @@ use Rattle.cmd_expand.specs.declared.refusal.ExpandRefusal.TheVariants as expand
 use Rattle.cmd_expand.specs.Expansion.{Meant, expansion, refused_of}
 use Rattle.cmd_expand.specs.Pairs as wrong
 use Rattle.di_top.specs.Sources.{Source, IsFileOf, main}
-use Rattle.di_top.specs.Calls.{Reading, Loaded}
-use Rattle.di_top.specs.CommandFiles.{command_cap, outcome_of, RefusedAs, told_of_text, told_of_expand, StopsWith, TooLong, Faulty, Refuses, IsAdmittedText}
+use Rattle.di_top.specs.CommandFiles.{outcome_of, RefusedAs, told_of_text, told_of_expand, StopsWith, TooLong, Faulty, Refuses, IsAdmittedText}
 use Rattle.di_top.specs.Plans.{IsStop}
 use Rattle.di_top.proofs.Sourcing.{one_source, no_source}
 

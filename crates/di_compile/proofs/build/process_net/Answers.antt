@@ -1,29 +1,41 @@
+use Rattle.std.proofs.Common.{ap, ◌∙◌, sym, subst}
+use Rattle.place_graph.specs.Drawable.{IsDrawable}
 use Rattle.place_graph.specs.Graph.{graph_of}
-use Rattle.plain_split.specs.PlainNet.{HasPlain}
-use Rattle.token_split.specs.TokenNet.{HasToken}
-use Rattle.di_compile.proofs.Built.{plain_style, token_style, has_plain, has_token}
+use Rattle.di_compile.proofs.Built.{plain_style, token_style, has_plain, has_token, is_drawable, process_net, first_only, if_all}
 use Rattle.di_compile.proofs.build.process_net.Goals as goal
 
-pub plain_net-requires : goal.plain_net-requires
-plain_net-requires c =
-    let p = c.args.process.now in
-    let plain = plain_style c.style.result c.args.graph.now (graph_of p) c.in-OneWait.is c.style.ensures c.requires.graph in
-    (p, has_plain c.args.command.now p c.requires.admitted c.requires.alone plain, c.requires.graph)
+pub graph-requires : goal.graph-requires
+graph-requires c = subst IsDrawable (sym (first_only c.as_slice.result.now c.index-as_slice-0.result c.requires.process (c.as_slice.ensures ∙ c.requires.alone) c.index-as_slice-0.is))
+    (is_drawable c.args.command.now c.requires.process c.requires.admitted c.requires.alone)
 
 pub token_net-requires : goal.token_net-requires
 token_net-requires c =
-    let p = c.args.process.now in
-    let style = token_style c.style.result c.args.graph.now (graph_of p) c.in-Token.is c.style.ensures c.requires.graph in
-    (p, has_token c.args.command.now p c.requires.admitted c.requires.alone style, c.requires.graph)
+    let p = c.requires.process in
+    let is = first_only c.as_slice.result.now c.index-as_slice-0.result p (c.as_slice.ensures ∙ c.requires.alone) c.index-as_slice-0.is in
+    let graph = c.in_ok-graph.ensures ∙ ap graph_of is in
+    (p, has_token c.args.command.now p c.requires.admitted c.requires.alone (token_style c.style.result c.in_ok-graph.graph (graph_of p) c.in-Token.is c.style.ensures graph), graph)
 
-pub returns-in-Token-clause-kinds : goal.returns-in-Token-clause-kinds
-returns-in-Token-clause-kinds c =
-    let p = c.args.process.now in
-    let style = token_style c.style.result c.args.graph.now (graph_of p) c.in-Token.is c.style.ensures c.requires.graph in
-    c.token_net.ensures.kinds p (has_token c.args.command.now p c.requires.admitted c.requires.alone style)
+pub plain_net-requires : goal.plain_net-requires
+plain_net-requires c =
+    let p = c.requires.process in
+    let is = first_only c.as_slice.result.now c.index-as_slice-0.result p (c.as_slice.ensures ∙ c.requires.alone) c.index-as_slice-0.is in
+    let graph = c.in_ok-graph.ensures ∙ ap graph_of is in
+    (p, has_plain c.args.command.now p c.requires.admitted c.requires.alone (plain_style c.style.result c.in_ok-graph.graph (graph_of p) c.in-OneWait.is c.style.ensures graph), graph)
 
-pub returns-in-OneWait-clause-kinds : goal.returns-in-OneWait-clause-kinds
-returns-in-OneWait-clause-kinds c =
-    let p = c.args.process.now in
-    let plain = plain_style c.style.result c.args.graph.now (graph_of p) c.in-OneWait.is c.style.ensures c.requires.graph in
-    c.plain_net.ensures.kinds p (has_plain c.args.command.now p c.requires.admitted c.requires.alone plain)
+pub returns-in-Token : goal.returns-in-Token
+returns-in-Token c =
+    let p = c.requires.process in
+    let is = first_only c.as_slice.result.now c.index-as_slice-0.result p (c.as_slice.ensures ∙ c.requires.alone) c.index-as_slice-0.is in
+    let style = token_style c.style.result c.in_ok-graph.graph (graph_of p) c.in-Token.is c.style.ensures (c.in_ok-graph.ensures ∙ ap graph_of is) in
+    if_all c.token_net.result c.token_net.ensures.right c.token_net.ensures.few
+    (c.token_net.ensures.kinds p (has_token c.args.command.now p c.requires.admitted c.requires.alone style))
+    (process_net c.args.command.now p c.requires.admitted c.requires.alone)
+
+pub returns : goal.returns
+returns c =
+    let p = c.requires.process in
+    let is = first_only c.as_slice.result.now c.index-as_slice-0.result p (c.as_slice.ensures ∙ c.requires.alone) c.index-as_slice-0.is in
+    let plain = plain_style c.style.result c.in_ok-graph.graph (graph_of p) c.in-OneWait.is c.style.ensures (c.in_ok-graph.ensures ∙ ap graph_of is) in
+    if_all c.plain_net.result c.plain_net.ensures.right c.plain_net.ensures.few
+    (c.plain_net.ensures.kinds p (has_plain c.args.command.now p c.requires.admitted c.requires.alone plain))
+    (process_net c.args.command.now p c.requires.admitted c.requires.alone)

@@ -1,9 +1,6 @@
-use Rattle.std.proofs.Common.{◌≡◌, ◌≤◌, None, sym, subst, length, ap, ◌∙◌, arith}
-use Rattle.std.specs.Prelude.{◌⊎◌, ◌↔◌, IsTrue}
-use Rattle.std.specs.List.{Contains}
-use Rattle.std.specs.Option.{IfSome}
+use Rattle.std.proofs.Common.{◌≡◌, ◌≤◌, sym, subst, length, arith}
+use Rattle.std.specs.Prelude.{◌⊎◌}
 use Rattle.cmd_tree.specs.declared.limits.TheConstants.{MAX_FILE_BYTES}
-use Rattle.process_laws.specs.Insensitive.{Insensitive}
 use Rattle.trace_laws.specs.Listed.{rows}
 use Rattle.trace_laws.specs.ListText.{IsListText}
 use Rattle.di_top.specs.declared.outcome.Outcome.{Outcome}

@@ -1,13 +1,10 @@
 use Rattle.std.proofs.Common.{◌≡◌, sym, subst, Some}
-use Rattle.std.specs.Prelude.{◌⊎◌}
-use Rattle.std.proofs.lemmas.Result.{IfErr-weaker}
 use Rattle.di_top.specs.declared.outcome.Outcome.{Outcome}
-use Rattle.di_top.specs.declared.outcome.Outcome.TheVariants.{NoMemory}
 use Rattle.di_top.specs.Requests.{Rules}
 use Rattle.di_top.specs.Outcomes.{Gives}
 use Rattle.di_top.specs.Plans.{IsStop}
 use Rattle.di_top.specs.Calls.{reading}
-use Rattle.di_top.specs.RulesForm.{ListStops, IsJudged, verdict_text}
+use Rattle.di_top.specs.RulesForm.{verdict_text}
 use Rattle.di_top.proofs.Compiling.{if_err}
 use Rattle.di_top.proofs.ListAnswers.{unlisted, rules_done}
 use Rattle.di_top.proofs.rules_form.plan_rules.Goals as goal

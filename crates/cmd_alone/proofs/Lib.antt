@@ -1,0 +1,14 @@
+pub mod Ranks
+pub mod Named
+pub mod Valid
+pub mod Back
+pub mod Traces
+pub mod Apart
+pub mod Walks
+pub mod Rules
+pub mod Admission
+pub mod Graphs
+pub mod SymbolSums
+pub mod GraphSums
+pub mod Counting
+pub mod Own

@@ -1,0 +1,7 @@
+use Rattle.std.proofs.Common.{◌≡◌, ◌++◌, map, drop}
+use Rattle.weave_split.specs.WeaveChart as web
+use Rattle.weave_split.specs.Mirror.TieTables.{wire_of}
+use Rattle.weave_split.proofs.named.gives.Given as goal
+
+abbrev pub invariant-loop-symbol : goal.invariant-loop-symbol
+invariant-loop-symbol l = map wire_of l.wires.items ++ map web.Give (drop l.symbol-index l.symbols) ≡ map web.Give l.symbols

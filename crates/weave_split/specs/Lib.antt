@@ -1,0 +1,4 @@
+pub mod WeaveChart
+pub mod WeaveNet
+pub mod WeaveParts
+pub mod Mirror

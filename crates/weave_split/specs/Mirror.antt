@@ -1,0 +1,3 @@
+-- What the code keeps, beside what is meant.
+pub mod TieTables
+pub mod WirePlaces
