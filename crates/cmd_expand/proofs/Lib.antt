@@ -8,3 +8,4 @@ pub mod Listed
 pub mod FileRead
 pub mod Commanded
 pub mod Alone
+pub mod CanonicalText

@@ -12,9 +12,11 @@ mod laws;
 mod names;
 mod pairs;
 mod plan;
+mod read;
 mod refusal;
 mod unfolding;
 
 pub use command::expand;
 pub use laws::own_command_law;
+pub use read::read_command;
 pub use refusal::ExpandRefusal;

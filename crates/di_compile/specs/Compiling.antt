@@ -1,7 +1,9 @@
 -- Which commands are compiled, and what is promised of their networks.
-use Rattle.std.specs.Prelude.{◌≡◌, ℕ, ◌<◌, ◌^◌, List, drop, length, ⊤}
+use Rattle.std.specs.Prelude.{◌≡◌, ◌≢◌, ℕ, ◌<◌, ◌≤◌, ◌^◌, List, drop, length, ⊤}
 use Rattle.cmd_tree.specs.declared.tree.Proc.{Proc}
 use Rattle.cmd_tree.specs.declared.command.Command.{Command}
+use Rattle.cmd_tree.specs.declared.limits.TheConstants.{MAX_COMPONENTS}
+use Rattle.cmd_rename.specs.Symbols.{symbols_of}
 use Rattle.basic_kinds.specs.Sorts.{Sort, how_many}
 use Rattle.basic_kinds.specs.Sums.{wide_sum}
 use Rattle.di_grammar.specs.Admitted.{Admitted, IsBroken}
@@ -12,15 +14,22 @@ use Rattle.net_core.specs.Wiring.{Circuit, Node}
 use Rattle.net_core.specs.Networks.{IsBasic, Correct, IsThrough, directions, end_at}
 use Rattle.net_core.specs.Renumbering.{Preserves}
 use Rattle.net_core.specs.Walk.{IsInWalkOrder}
-use Rattle.di_compile.specs.declared.build.Basis.{Basis}
-use Rattle.di_compile.specs.declared.build.Basis.TheVariants.{Wide}
+use Rattle.count_sum.specs.Counts.{all_sorts}
+use Rattle.count_sum.specs.declared.counts.Basis.{Basis}
+use Rattle.count_sum.specs.declared.counts.Basis.TheVariants.{Wide}
 use Rattle.di_compile.specs.declared.refusal.CompileRefusal.{CompileRefusal}
-use Rattle.di_compile.specs.declared.refusal.CompileRefusal.TheVariants.{Broken, NotThisForm, NoMemory}
+use Rattle.di_compile.specs.declared.refusal.CompileRefusal.TheVariants.{Broken, NotThisForm, TooManyComponents, NoMemory}
 
--- A network of these processes is built in this basis: they are an admitted command, and the basis is wide.
+-- how many components the network of a command of these processes has, in the basis wide
+abbrev pub total : List Proc → ℕ
+total ps = all_sorts (command_sum wide_sum ps (length (symbols_of ps)))
+
+-- A network of these processes is built in this basis: they are an admitted command, the basis is wide, and it has no more
+-- components than a network may have.
 pub record IsBuilt (basis : Basis) (ps : List Proc) : Type 0 where
   pub wide : basis ≡ Wide
   pub admitted : Admitted ps
+  pub few : total ps ≤ MAX_COMPONENTS
 
 -- how many components of the sort the network has
 abbrev pub number_of : Circuit → Sort → ℕ
@@ -40,7 +49,8 @@ pub record IsNetworkOf (command : Command) (net : Circuit) : Type 0 where
 -- why a command of these processes is refused; memory may always be missing
 abbrev pub IsRefused : Basis → List Proc → CompileRefusal → Type 0
 IsRefused basis ps (Broken b) = IsBroken ps b
-IsRefused basis ps NotThisForm = Admitted ps × (IsBuilt basis ps → ⊥)
+IsRefused basis ps NotThisForm = Admitted ps × (basis ≢ Wide)
+IsRefused basis ps (TooManyComponents n) = Admitted ps × (basis ≡ Wide) × (MAX_COMPONENTS < n) × (n ≡ total ps)
 IsRefused basis ps NoMemory = ⊤
 
 -- the network d is c in walk order

@@ -7,7 +7,8 @@ ghost use Rattle.di_compile.specs.Compiling.{IsBuilt, IsInOrderOf, IsNetworkOf, 
 ghost use Rattle.di_compile.specs.Mirror.InPlaces.{IsProcessNet, IsInPlace, AreInPlaces};
 
 use crate::refusal::CompileRefusal;
-use cmd_tree::Command;
+use cmd_tree::{Command, MAX_COMPONENTS};
+use count_sum::{Basis, count_wide};
 use di_grammar::check;
 use net_core::{Net, NodeSpec, order};
 use place_graph::{SplitStyle, graph, style};
@@ -17,20 +18,12 @@ use substitute::splice_all;
 use token_split::token_net;
 use weave_split::weave_net;
 
-/// Of which components a network is made.
-#[derive(Debug, Clone, Copy, PartialEq, Eq)]
-pub enum Basis {
-    /// Of any widths.
-    Wide,
-    /// Of two inputs or outputs that are alike, at most.
-    Two,
-}
-
 /// The network of a command, in walk order: closed, of basic components, correct for the command, with as
 /// many components of each kind as the sums of the command say, and with symbol i on wire i.
 ///
 /// A command that breaks a rule is refused with the answer of `check`; in the basis two no network is built today,
-/// and an admitted command is `NotThisForm`. Time and memory grow with the places of the command and the wires of its
+/// and an admitted command is `NotThisForm`; and one whose network would have more than 65,536 components is refused
+/// with their number, before anything is built. Time and memory grow with the places of the command and the wires of its
 /// network.
 pub fn compile(alloc: Global, command: &Command, basis: Basis) -> Result<Net, CompileRefusal>
     ensures ok { IfOk result (λ net. IsBuilt basis command.now.procs × IsNetworkOf command.now net) }
@@ -40,9 +33,22 @@ pub fn compile(alloc: Global, command: &Command, basis: Basis) -> Result<Net, Co
         return Err(CompileRefusal::Broken(broken));
     }
     match basis {
-        Basis::Wide => Ok(compile_wide(alloc, command)?),
+        Basis::Wide => compile_within(alloc, command),
         Basis::Two => Err(CompileRefusal::NotThisForm),
     }
+}
+
+/// The components are counted before anything is built.
+fn compile_within(alloc: Global, command: &Command) -> Result<Net, CompileRefusal>
+    requires { Admitted command.now.procs }
+    ensures ok { IfOk result (λ net. IsBuilt Basis.Wide command.now.procs × IsNetworkOf command.now net) }
+    ensures refused { IfErr result (IsRefused Basis.Wide command.now.procs) }
+{
+    let count = count_wide(alloc, command)?.total();
+    if count > MAX_COMPONENTS as u64 {
+        return Err(CompileRefusal::TooManyComponents { count });
+    }
+    Ok(compile_wide(alloc, command)?)
 }
 
 /// The network of the weave, with the network of each process in its place.

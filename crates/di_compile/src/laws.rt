@@ -1,7 +1,7 @@
 //! Laws of what compiling promises: each function here does nothing, and its contract is the law.
 ghost use Rattle.std.specs.Prelude.{◌≡◌, List};
 ghost use Rattle.cmd_tree.specs.declared.tree.Proc.{Proc};
-ghost use Rattle.di_compile.specs.declared.build.Basis.{Basis};
+ghost use Rattle.count_sum.specs.declared.counts.Basis.{Basis};
 ghost use Rattle.di_compile.specs.declared.refusal.CompileRefusal.{CompileRefusal};
 ghost use Rattle.di_compile.specs.declared.refusal.CompileRefusal.TheVariants.{NoMemory};
 ghost use Rattle.di_compile.specs.Compiling.{IsBuilt, IsRefused};

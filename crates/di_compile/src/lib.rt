@@ -8,6 +8,7 @@ mod build;
 mod laws;
 mod refusal;
 
-pub use build::{Basis, compile};
+pub use build::compile;
+pub use count_sum::Basis;
 pub use laws::compile_law;
 pub use refusal::CompileRefusal;

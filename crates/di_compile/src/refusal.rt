@@ -7,8 +7,10 @@ use std::alloc::AllocError;
 pub enum CompileRefusal {
     /// It breaks this rule.
     Broken(Broken),
-    /// It is admitted, and no network of it is built today.
+    /// It is admitted, and no network of it is built today in this basis.
     NotThisForm,
+    /// It is admitted, and its network would have so many components, more than a network may have.
+    TooManyComponents { count: u64 },
     NoMemory,
 }
 

@@ -1,12 +1,13 @@
 -- From what was read of a file to what is answered and printed of it.
-use Rattle.std.proofs.Common.{◌≡◌, ℕ, List, Some, refl, sym, subst, inl, inr, IfErr, IsErrAnd}
+use Rattle.std.proofs.Common.{◌≡◌, ◌<◌, ℕ, List, Some, refl, sym, subst, inl, inr, IfErr, IsErrAnd}
 use Rattle.std.specs.Prelude.{◌⊎◌, Ok, Err, Result}
 use Rattle.cmd_tree.specs.declared.command.Command.{Command}
 use Rattle.cmd_tree.specs.declared.tree.Proc.{Proc}
 use Rattle.net_core.specs.Wiring.{Circuit}
-use Rattle.di_compile.specs.Compiling.{IsNetworkOf}
+use Rattle.cmd_tree.specs.declared.limits.TheConstants.{MAX_COMPONENTS}
+use Rattle.di_compile.specs.Compiling.{total, IsNetworkOf}
 use Rattle.di_top.specs.declared.outcome.Outcome.{Outcome}
-use Rattle.di_top.specs.declared.outcome.Outcome.TheVariants.{Done, NoMemory}
+use Rattle.di_top.specs.declared.outcome.Outcome.TheVariants.{Done, NoMemory, Limit}
 use Rattle.net_text.specs.NetText.{net_text}
 use Rattle.di_top.specs.Requests.{CompileWide, Check}
 use Rattle.di_top.specs.Calls.{Reading, Loaded}
@@ -20,13 +21,16 @@ use Rattle.di_top.proofs.Stops.{stops_are_stops}
 pub compile_done : (r : Reading) (file : List ℕ) (command : Command) (net : Circuit) → FileHolds r file command.names command.procs
     → Compiles command.procs × IsNetworkOf command net → Gives (Some (CompileWide file)) r Done × Prints (Some (CompileWide file)) r (net_text net)
 compile_done r file command net h (built, network) = (
-  inr (Taken command.names command.procs h (built, refl)),
+  inr (Taken command.names command.procs h (inl (built, refl))),
   record { command = command; held = h; compiles = built; netlist = record { net = net; network = network; is = refl } },
 )
 
--- memory is missing
-pub no_memory : (r : Reading) (file : List ℕ) (stop : Outcome) → stop ≡ NoMemory → IsStop stop × Gives (Some (CompileWide file)) r stop
-no_memory r file stop e = let P : Outcome → Type 0 = IsStop in (subst P (sym e) tt, inl e)
+-- an admitted command whose network would have too many components, or memory is missing
+pub not_built : (r : Reading) (file : List ℕ) (command : Command) → FileHolds r file command.names command.procs → (stop : Outcome)
+    → (stop ≡ NoMemory) ⊎ ((MAX_COMPONENTS < total command.procs) × (stop ≡ Limit 6 (total command.procs))) → IsStop stop × Gives (Some (CompileWide file)) r stop
+not_built r file command h stop (inl e) = let P : Outcome → Type 0 = IsStop in (subst P (sym e) tt, inl e)
+not_built r file command h stop (inr (many, e)) =
+    let P : Outcome → Type 0 = IsStop in (subst P (sym e) tt, inr (Taken command.names command.procs h (inr (many, e))))
 
 pub check_done : (r : Reading) (file : List ℕ) (command : Command) → FileHolds r file command.names command.procs
     → Gives (Some (Check file)) r Done × Prints (Some (Check file)) r (counts_text (counts_of command.names command.procs))

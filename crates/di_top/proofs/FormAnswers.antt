@@ -1,5 +1,5 @@
 -- What the forms of words give where the contents of their files are told: one outcome, and Done exactly of those that they admit.
-use Rattle.std.proofs.Common.{◌≡◌, ℕ, List, Option, Some, None, refl, sym, ◌∙◌, subst, inl, inr}
+use Rattle.std.proofs.Common.{◌≡◌, arith, ℕ, List, Option, Some, None, refl, sym, ◌∙◌, subst, inl, inr}
 use Rattle.std.specs.Prelude.{⊤}
 use Rattle.cmd_tree.specs.declared.tree.Proc.{Proc}
 use Rattle.di_top.specs.declared.outcome.Outcome.{Outcome}
@@ -31,7 +31,8 @@ file_only Used Suits suits r file (held.Stopped (Bytes bytes l s)) all told = ab
 file_only Used Suits suits r file (Taken names procs h u) all told = holds_admits Suits r file names procs h (suits procs u) all told
 
 compile_suits : (procs : List Proc) → CompileUses procs Done → Compiles procs
-compile_suits procs (c, e) = c
+compile_suits procs (inl (c, e)) = c
+compile_suits procs (inr (many, e)) = absurd (cc)
 
 compile_only : (r : Reading) (file : List ℕ) → CompileGives r file Done → (all : List ℕ) → r.content file ≡ Some all → CompileAdmits r file
 compile_only r file g all told = file_only CompileUses Compiles compile_suits r file g all told
@@ -79,7 +80,10 @@ file_answer Used once r file told quiet a b (Taken names procs h u) (Taken other
     once qrocs a b (subst Q (one_text k.bytes names others procs qrocs t k.admitted) u) v
 
 compile_once : (procs : List Proc) (a b : Outcome) → CompileUses procs a → CompileUses procs b → a ≡ b
-compile_once procs a b (c, e) (d, h) = e ∙ sym h
+compile_once procs a b (inl (c, e)) (inl (d, h)) = e ∙ sym h
+compile_once procs a b (inl (c, e)) (inr (many, h)) = absurd (omega (arith, c.few, many))
+compile_once procs a b (inr (many, e)) (inl (d, h)) = absurd (omega (arith, d.few, many))
+compile_once procs a b (inr (many, e)) (inr (more, h)) = e ∙ sym h
 
 check_once : (procs : List Proc) (a b : Outcome) → CheckUses procs a → CheckUses procs b → a ≡ b
 check_once procs a b e h = e ∙ sym h
@@ -109,6 +113,6 @@ admits_told (Some (Rules file)) r a = ((a.content, a.told), tt)
 pub admits_gives : (request : Option Request) (r : Reading) → Admits request r → FormGives request r Done
 admits_gives None r a = absurd a
 admits_gives (Some (CompileWide file)) r a =
-    Taken a.suited.names a.suited.procs (admits_holds Compiles r file a) (a.suited.suits, refl)
+    Taken a.suited.names a.suited.procs (admits_holds Compiles r file a) (inl (a.suited.suits, refl))
 admits_gives (Some (Check file)) r a = Taken a.suited.names a.suited.procs (admits_holds (λ procs. ⊤) r file a) refl
 admits_gives (Some (Rules file)) r a = Judged a.names a.dirs a.traces (admits_lists r file a) refl

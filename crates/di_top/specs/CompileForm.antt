@@ -1,15 +1,16 @@
 -- The form `compile wide F`: which commands compile, what is answered of an admitted one, and what is printed.
-use Rattle.std.specs.Prelude.{◌≡◌, ℕ, List}
+use Rattle.std.specs.Prelude.{◌≡◌, ◌⊎◌, ◌<◌, ℕ, List}
 use Rattle.cmd_tree.specs.declared.tree.Proc.{Proc}
 use Rattle.cmd_tree.specs.declared.command.Command.{Command}
 use Rattle.net_core.specs.Wiring.{Circuit}
 use Rattle.cmd_tree.specs.Meaning.{Trace}
 use Rattle.process_laws.specs.Insensitive.{Insensitive}
 use Rattle.di_grammar.specs.Outputs.{out_of}
-use Rattle.di_compile.specs.declared.build.Basis.TheVariants.{Wide}
-use Rattle.di_compile.specs.Compiling.{IsBuilt, IsNetworkOf}
+use Rattle.cmd_tree.specs.declared.limits.TheConstants.{MAX_COMPONENTS}
+use Rattle.count_sum.specs.declared.counts.Basis.TheVariants.{Wide}
+use Rattle.di_compile.specs.Compiling.{total, IsBuilt, IsNetworkOf}
 use Rattle.di_top.specs.declared.outcome.Outcome.{Outcome}
-use Rattle.di_top.specs.declared.outcome.Outcome.TheVariants.{Done}
+use Rattle.di_top.specs.declared.outcome.Outcome.TheVariants.{Done, Limit}
 use Rattle.net_text.specs.NetText.{net_text}
 use Rattle.di_top.specs.Calls.{Reading}
 use Rattle.di_top.specs.CommandFiles.{IsAdmittedText, FileHolds, FileGives, FileAdmits}
@@ -18,9 +19,9 @@ use Rattle.di_top.specs.CommandFiles.{IsAdmittedText, FileHolds, FileGives, File
 abbrev pub Compiles : List Proc → Type 0
 Compiles procs = IsBuilt Wide procs
 
--- what is answered of an admitted command: of each a network is built
+-- what is answered of an admitted command: a network is built of it, or that would have too many components
 abbrev pub CompileUses : List Proc → Outcome → Type 0
-CompileUses procs outcome = Compiles procs × (outcome ≡ Done)
+CompileUses procs outcome = (Compiles procs × (outcome ≡ Done)) ⊎ ((MAX_COMPONENTS < total procs) × (outcome ≡ Limit 6 (total procs)))
 
 abbrev pub CompileGives : Reading → List ℕ → Outcome → Type 0
 CompileGives r file outcome = FileGives CompileUses r file outcome

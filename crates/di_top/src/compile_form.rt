@@ -1,7 +1,8 @@
 //! The form `compile wide F`.
-ghost use Rattle.std.specs.Prelude.{◌≡◌, ◌≤◌, ℕ, List, IfOk, IfErr, Some};
+ghost use Rattle.std.specs.Prelude.{◌≡◌, ◌≤◌, ◌<◌, ◌⊎◌, ℕ, List, IfOk, IfErr, Some};
 ghost use Rattle.di_grammar.specs.Admitted.{Admitted};
-ghost use Rattle.di_compile.specs.Compiling.{IsNetworkOf};
+ghost use Rattle.cmd_tree.specs.declared.limits.TheConstants.{MAX_COMPONENTS};
+ghost use Rattle.di_compile.specs.Compiling.{total, IsNetworkOf};
 ghost use Rattle.di_top.specs.Requests.{CompileWide as Asked};
 ghost use Rattle.di_top.specs.Calls.{reading};
 ghost use Rattle.di_top.specs.CompileForm.{Compiles};
@@ -12,7 +13,7 @@ use crate::command::load_command;
 use crate::outcome::Outcome;
 use crate::plan::Plan;
 use cmd_tree::Command;
-use di_compile::{Basis, compile};
+use di_compile::{Basis, CompileRefusal, compile};
 use di_io::Shelf;
 use net_core::Net;
 use std::alloc::Global;
@@ -32,14 +33,19 @@ pub fn plan_compile<F: Shelf>(alloc: Global, file: &str, shelf: &mut F) -> Resul
     Ok(Plan::Compile(net))
 }
 
-// The network of an admitted command, which want of memory alone prevents.
+// The network of an admitted command.
 fn network(alloc: Global, command: &Command) -> Result<Net, Outcome>
     requires { Admitted command.now.procs }
     ensures ok { IfOk result (λ net. Compiles command.now.procs × IsNetworkOf command.now net) }
-    ensures stop { IfErr result (λ stop. stop ≡ Outcome.NoMemory) }
+    ensures stop { IfErr result (λ stop. (stop ≡ Outcome.NoMemory)
+        ⊎ ((MAX_COMPONENTS < total command.now.procs) × (stop ≡ Outcome.Limit 6 (total command.now.procs)))) }
 {
     match compile(alloc, command, Basis::Wide) {
         Ok(net) => Ok(net),
+        Err(CompileRefusal::TooManyComponents { count }) => Err(Outcome::Limit {
+            limit: 6,
+            value: count,
+        }),
         Err(_) => Err(Outcome::NoMemory),
     }
 }

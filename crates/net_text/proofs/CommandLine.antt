@@ -52,7 +52,7 @@ begun_in_line (b ∷ bs) h =
     let p = and_parts (is_letter b) (list_all is_tail bs) h in
     (letter_in_line b p.0, tails_in_line bs p.1)
 
-name_in_line : (n : List ℕ) → IsTrue (is_name n) → InLine n
+pub name_in_line : (n : List ℕ) → IsTrue (is_name n) → InLine n
 name_in_line n h = begun_in_line n
     (and_parts (nat_le (length n) 32) (begins_with_letter n)
     (and_parts (nat_le (length n) 32 && begins_with_letter n) (not (is_word n)) h).0).1

@@ -1,8 +1,7 @@
 -- The line of a component tells its kind and its wires.
-use Rattle.std.proofs.Common.{◌≡◌, ◌⊎◌, inl, inr, ℕ, ◌<◌, false, List, [], ◌∷◌, ◌++◌, length, Option, Some, None, refl, sym, ap, ◌∙◌, subst, arith, append_assoc}
-use Rattle.std.specs.Prelude.{IsTrue, nat_lt, flat_map, codes, decimal, if◌then◌else◌}
+use Rattle.std.proofs.Common.{◌≡◌, ◌⊎◌, inl, inr, ℕ, ◌<◌, false, List, [], ◌∷◌, ◌++◌, length, Some, None, refl, sym, ap, ◌∙◌, subst, arith, append_assoc}
+use Rattle.std.specs.Prelude.{IsTrue, nat_lt, flat_map, codes, decimal}
 use Rattle.std.specs.List.{AllByRecursion, list_all}
-use Rattle.std.specs.Str.{bytes_eq}
 use Rattle.std.specs.Char.{is_ascii_digit, is_ascii_uppercase}
 use Rattle.std.proofs.lemmas.Bool.{and_parts, ltb-true}
 use Rattle.basic_kinds.specs.declared.shape.Shape.{Shape}
@@ -13,6 +12,7 @@ use Rattle.basic_kinds.specs.Shapes.{IsShape, IsShape-prop, is_within}
 use Rattle.text_lines.specs.Lines.{worded}
 use Rattle.net_text.specs.NetText.{number_text, crossing_text, kind_text, component_line}
 use Rattle.net_text.specs.Told.{Small, AreWiresOf}
+use Rattle.net_text.specs.Mirror.PartWords.{name_of, kind_named}
 use Rattle.net_text.proofs.Words.{Word, Gap, word_apart, word_begins, decimal_apart, decimal_begins, line, mark, IsItemText, led, items_gap, items_apart}
 
 -- ---- wires and crossings
@@ -22,10 +22,10 @@ decimals = record {
   begins = λ n a m r h g e. decimal_begins n a m r h g e;
 }
 
-abbrev SmallPair : ℕ × ℕ → Type 0
+abbrev pub SmallPair : ℕ × ℕ → Type 0
 SmallPair p = Small p.0 × Small p.1
 
-abbrev pair : ℕ × ℕ → List ℕ
+abbrev pub pair : ℕ × ℕ → List ℕ
 pair p = decimal p.0 ++ 46 ∷ decimal p.1
 
 pair_apart : (p q : ℕ × ℕ) (a b : List ℕ) → SmallPair p → SmallPair q → Gap is_ascii_digit a → Gap is_ascii_digit b
@@ -60,24 +60,12 @@ unfolding worded
 crossings_led [] = refl
 crossings_led (x ∷ xs) = ap (λ (t : List ℕ). led pair x ++ t) (crossings_led xs)
 
--- ---- the name of a kind, and what stands between it and the wires
-abbrev name_of : Kind → List ℕ
-name_of Wire = codes "WIRE"
-name_of Iwire = codes "IWIRE"
-name_of Source = codes "SOURCE"
-name_of Sink = codes "SINK"
-name_of (Fork n) = codes "FORK"
-name_of (C n) = codes "C"
-name_of (Merge n) = codes "MERGE"
-name_of Toggle = codes "TOGGLE"
-name_of (Dw s) = codes "DW"
-name_of (Seq k) = codes "SEQ"
-
+-- ---- what stands between the name of a kind and its wires
 -- a shape, and a text behind it
-abbrev shape_then : Shape → List ℕ → List ℕ
+abbrev pub shape_then : Shape → List ℕ → List ℕ
 shape_then s t = 32 ∷ (decimal s.rows ++ (32 ∷ (decimal s.cols ++ (flat_map (led pair) s.cross ++ (32 ∷ (58 ∷ t))))))
 
-abbrev shape_of : Kind → List ℕ → List ℕ
+abbrev pub shape_of : Kind → List ℕ → List ℕ
 shape_of Wire t = t
 shape_of Iwire t = t
 shape_of Source t = t
@@ -114,7 +102,7 @@ kind_opened Toggle t = refl
 kind_opened (Dw s) t = shape_opened s t
 kind_opened (Seq k) t = refl
 
-name_word : (k : Kind) → Word is_ascii_uppercase (name_of k)
+pub name_word : (k : Kind) → Word is_ascii_uppercase (name_of k)
 name_word Wire = (refl, (refl, (refl, (refl, tt))))
 name_word Iwire = (refl, (refl, (refl, (refl, (refl, tt)))))
 name_word Source = (refl, (refl, (refl, (refl, (refl, (refl, tt))))))
@@ -137,15 +125,6 @@ name_gap (Merge n) t g = g
 name_gap Toggle t g = g
 name_gap (Dw s) t g = refl
 name_gap (Seq k) t g = g
-
--- the kind of a name and numbers of wires; a DW is told by its shape
-abbrev kind_named : List ℕ → ℕ → ℕ → Option Kind
-kind_named n inputs outputs =
-    if bytes_eq n (codes "WIRE") then Some Wire else if bytes_eq n (codes "IWIRE") then Some Iwire
-    else if bytes_eq n (codes "SOURCE") then Some Source else if bytes_eq n (codes "SINK") then Some Sink
-    else if bytes_eq n (codes "FORK") then Some (Fork outputs) else if bytes_eq n (codes "C") then Some (C inputs)
-    else if bytes_eq n (codes "MERGE") then Some (Merge inputs) else if bytes_eq n (codes "TOGGLE") then Some Toggle
-    else if bytes_eq n (codes "SEQ") then Some (Seq outputs) else None
 
 -- a kind without a shape is known by its name and its numbers of wires
 pub record IsNamed (k : Kind) : Type 0 where
@@ -181,7 +160,7 @@ same_given m n c d x y v w e f g =
 same_shape : (s t : Shape) → s.rows ≡ t.rows → s.cols ≡ t.cols → s.cross ≡ t.cross → s ≡ t
 same_shape s t e f g = same_given s.rows t.rows s.cols t.cols s.cross t.cross s.whole t.whole e f g
 
-crossings_small : (rows cols : ℕ) (xs : List (ℕ × ℕ)) → Small rows → Small cols → IsTrue (list_all (is_within rows cols) xs)
+pub crossings_small : (rows cols : ℕ) (xs : List (ℕ × ℕ)) → Small rows → Small cols → IsTrue (list_all (is_within rows cols) xs)
     → AllByRecursion SmallPair xs
 crossings_small rows cols [] h k w = tt
 crossings_small rows cols (x ∷ xs) h k w =
@@ -213,7 +192,7 @@ shape_apart s t a b f g e =
 
 -- ---- the wires
 -- the wires of a component, and a text behind its line
-abbrev wires_then : List ℕ → List ℕ → List ℕ → List ℕ
+abbrev pub wires_then : List ℕ → List ℕ → List ℕ → List ℕ
 wires_then ins outs t = flat_map (led decimal) ins ++ (32 ∷ (62 ∷ (flat_map (led decimal) outs ++ (10 ∷ t))))
 
 wires_gap : (ins outs t : List ℕ) → Gap is_ascii_uppercase (wires_then ins outs t)
@@ -234,7 +213,7 @@ wires_apart ins jns outs puts r s a b c d e =
     (one.0, two.0, (let done : r ≡ s = cc in done))
 
 -- ---- the line
-line_opened : (k : Kind) (ins outs t : List ℕ) → component_line k ins outs ++ t ≡ name_of k ++ shape_of k (wires_then ins outs t)
+pub line_opened : (k : Kind) (ins outs t : List ℕ) → component_line k ins outs ++ t ≡ name_of k ++ shape_of k (wires_then ins outs t)
 line_opened k ins outs t =
     let i : List ℕ = flat_map (led decimal) ins in
     let o : List ℕ = flat_map (led decimal) outs in

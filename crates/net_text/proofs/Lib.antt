@@ -3,3 +3,12 @@ pub mod Words
 pub mod CommandLine
 pub mod ComponentLine
 pub mod Told
+pub mod Cuts
+pub mod Numerals
+pub mod Crossings
+pub mod PartLines
+pub mod NetLines
+pub mod Counted
+pub mod PartsRead
+pub mod WholeNet
+pub mod FaultLaw

@@ -49,7 +49,7 @@ wires_of k ends p =
 no_command : {P : Type 0} (c : Command) (ends : List ℕ) → IsPart (Cmd c) ends → P
 no_command c ends p = let h : false ≡ true = p.basic in absurd (cc)
 
-spec_apart : (s t : NodeSpec) (es fs r q : List ℕ) → IsPart s es → IsPart t fs → spec_line s es ++ r ≡ spec_line t fs ++ q
+pub spec_apart : (s t : NodeSpec) (es fs r q : List ℕ) → IsPart s es → IsPart t fs → spec_line s es ++ r ≡ spec_line t fs ++ q
     → (s ≡ t) × (es ≡ fs) × (r ≡ q)
 spec_apart (Cmd c) t es fs r q f g e = no_command c es f
 spec_apart (Basic k) (Cmd c) es fs r q f g e = no_command c fs g
@@ -62,14 +62,14 @@ spec_apart (Basic k) (Basic l) es fs r q f g e =
       told.3,
     )
 
-spec_begins : (s : NodeSpec) (es r q : List ℕ) → IsPart s es → spec_line s es ++ r ≡ 101 ∷ q → ⊥
+pub spec_begins : (s : NodeSpec) (es r q : List ℕ) → IsPart s es → spec_line s es ++ r ≡ 101 ∷ q → ⊥
 spec_begins (Cmd c) es r q f e = no_command c es f
 spec_begins (Basic k) es r q f e = line_begins k (take (inputs_of k) es) (drop (inputs_of k) es) r q e
 
-abbrev ArePart : Node → Type 0
+abbrev pub ArePart : Node → Type 0
 ArePart x = IsPart x.spec x.ends
 
-abbrev last_line : List ℕ
+abbrev pub last_line : List ℕ
 last_line = codes "end\n"
 
 parts_told : (xs ys : List Node) → AllByRecursion ArePart xs → AllByRecursion ArePart ys
@@ -86,10 +86,10 @@ parts_told (x ∷ xs) (y ∷ ys) f g e =
     λ i. record { spec = told.0 i; ends = told.1 i } ∷ more i
 
 -- ---- the whole text
-abbrev ports_of : Command → List ℕ
+abbrev pub ports_of : Command → List ℕ
 ports_of c = ports_text (gives_symbol (marks_of_all c.procs)) 0 c.names
 
-net_opened : (c : Command) (parts : List Node) → command_net_text c parts
+pub net_opened : (c : Command) (parts : List Node) → command_net_text c parts
     ≡ codes "dinet 1\nspec " ++ (procs_text c.names c.procs ++ (10 ∷ (ports_of c ++ (flat_map node_line parts ++ last_line))))
 net_opened c parts =
     let h : List ℕ = codes "dinet 1\nspec " in
@@ -117,7 +117,7 @@ texts_told law k l ps qs f g e =
     (same, parts_told ps qs f g rest)
 
 -- ---- the environment's wires, and the number of wires
-same_ends : (n : ℕ) (es fs : List ℕ) → length es ≡ n → length fs ≡ n → ((i : ℕ) → i < n → slice_index_or es i 0 ≡ i)
+pub same_ends : (n : ℕ) (es fs : List ℕ) → length es ≡ n → length fs ≡ n → ((i : ℕ) → i < n → slice_index_or es i 0 ≡ i)
     → ((i : ℕ) → i < n → slice_index_or fs i 0 ≡ i) → es ≡ fs
 same_ends n es fs d e f g = ext_get_or 0 es fs (d ∙ sym e)
     (λ i h. f i (omega (arith, h, d)) ∙ sym (g i (omega (arith, h, d))))
@@ -145,7 +145,7 @@ pub record IsToldBy (command : Command) (nodes : List Node) : Type 0 where
 symbols_sized : (k : Command) (ends : List ℕ) → length ends ≡ length (outs_of (Cmd k)) → length ends ≡ length k.names
 symbols_sized k ends e = e ∙ length-map-range_with_len (gives_symbol (marks_of_all k.procs)) 0 (length k.names)
 
-told_by : (nodes : List Node) (n : ℕ) (c : HasText (record { nodes = nodes; wires = n })) → IsToldBy c.command nodes
+pub told_by : (nodes : List Node) (n : ℕ) (c : HasText (record { nodes = nodes; wires = n })) → IsToldBy c.command nodes
 told_by [] n c = absurd (omega (arith, c.network.some))
 told_by (x ∷ xs) n c =
     let is : x.spec ≡ Cmd c.command = same_some c.specified in

@@ -51,7 +51,7 @@ digits_word : (ds : List ℕ) → all_ascii_digits ds ≡ true → Word is_ascii
 digits_word [] h = tt
 digits_word (d ∷ ds) h = let p = and_parts (is_ascii_digit d) (all_ascii_digits ds) h in (p.0, digits_word ds p.1)
 
-decimal_word : (n : ℕ) → n < 2 ^ 64 → Word is_ascii_digit (decimal n)
+pub decimal_word : (n : ℕ) → n < 2 ^ 64 → Word is_ascii_digit (decimal n)
 decimal_word n h = digits_word (decimal n) (decimal_is n h).digits
 
 pub decimal_apart : (m n : ℕ) (a b : List ℕ) → m < 2 ^ 64 → n < 2 ^ 64 → Gap is_ascii_digit a → Gap is_ascii_digit b

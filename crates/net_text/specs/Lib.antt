@@ -1,3 +1,4 @@
 pub mod NetText
 pub mod Told
+pub mod NetFault
 pub mod Mirror

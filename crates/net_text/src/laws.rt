@@ -7,6 +7,8 @@ ghost use Rattle.net_core.specs.Wiring.{Circuit};
 ghost use Rattle.net_core.specs.Networks.{Correct, IsBasic, end_at};
 ghost use Rattle.net_text.specs.NetText.{component_line, net_text};
 ghost use Rattle.net_text.specs.Told.{AreWiresOf, HasText};
+ghost use Rattle.net_text.specs.declared.refusal.NetRefusal.{NetRefusal};
+ghost use Rattle.net_text.specs.NetFault.{NetFault, IsNetlist};
 
 use cmd_text::canonical_texts_are_read;
 
@@ -21,6 +23,17 @@ pub fn texts_tell_networks()
         → (kind ≡ other) × (inputs ≡ ins) × (outputs ≡ outs) }
     ensures correct { (command : Command) (c : Circuit) → Correct c (Cmd command) → IsBasic c
         → ((i : ℕ) → i < length command.names → end_at c 0 i ≡ i) → c.wires ≤ 2 ^ 64 → HasText c }
+{
+    canonical_texts_are_read();
+}
+
+/// Bytes are the text of one network, with an admitted command, few components and few wires, or they have one first
+/// fault, and never both. So `read_net` gives the network exactly where they are such a text, and each refusal exactly
+/// where it is the fault.
+pub fn netlist_or_fault()
+    ensures not_both { (bytes : List ℕ) (net : Circuit) (r : NetRefusal) → IsNetlist bytes net → NetFault bytes r → ⊥ }
+    ensures one_net { (bytes : List ℕ) (c d : Circuit) → IsNetlist bytes c → IsNetlist bytes d → c ≡ d }
+    ensures one_fault { (bytes : List ℕ) (r s : NetRefusal) → NetFault bytes r → NetFault bytes s → r ≡ s }
 {
     canonical_texts_are_read();
 }

@@ -1,7 +1,8 @@
 //! The text of a network: a netlist.
 //!
 //! `write_net` puts the text of a network whose environment is a command: the command, a line for each
-//! symbol, a line for each component, and `end`. It takes no memory. `specs/NetText` has the format:
+//! symbol, a line for each component, and `end`. It takes no memory. `read_net` reads such a text in one pass, or tells
+//! its first faulty line or the least open wire, as `specs/NetFault` says. `specs/NetText` has the format:
 //!
 //!     dinet 1
 //!     spec pref*[(a?||b?);(c!||d!)]
@@ -15,9 +16,20 @@
 #![tactic(auto)]
 
 mod component;
+mod header;
 mod laws;
 mod net;
+mod part;
+mod pieces;
 mod ports;
+mod read;
+mod refusal;
+#[cfg(test)]
+mod tests;
+mod wait;
+mod wires;
 
-pub use laws::texts_tell_networks;
+pub use laws::{netlist_or_fault, texts_tell_networks};
 pub use net::write_net;
+pub use read::read_net;
+pub use refusal::NetRefusal;

@@ -1,0 +1,9 @@
+pub mod SortCounts
+pub mod PartCounts
+pub mod WaitBound
+pub mod ListSteps
+pub mod GraphCounts
+pub mod RingSteps
+pub mod WeaveCounts
+pub mod ReadableGraphs
+pub mod TwoWayBound

@@ -1,0 +1,19 @@
+//! How many components of each sort the network of a command has in the basis wide, and that 64 bits count those of the
+//! basis two.
+//!
+//! What is counted is read off the command: off its weave, and off the graph of each process. No network is built.
+#![tactic(auto)]
+
+mod count;
+mod counts;
+mod graphs;
+mod laws;
+mod parts;
+mod rings;
+mod sums;
+mod tally;
+mod weaves;
+
+pub use count::count_wide;
+pub use counts::{Basis, Counts};
+pub use laws::{command_law, wait_law};

@@ -1,0 +1,9 @@
+pub mod FanRules
+pub mod FanWires
+pub mod ForkWeb
+pub mod JoinWeb
+pub mod MergeWeb
+pub mod FanChart
+pub mod ForkLayer
+pub mod GatherLayer
+pub mod FanSplits

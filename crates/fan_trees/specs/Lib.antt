@@ -1,0 +1,2 @@
+pub mod FanLayers
+pub mod Mirror

@@ -1,0 +1,4 @@
+pub mod Answers
+pub mod Probes
+pub mod ScheduleText
+pub mod Mirror

@@ -1,0 +1,5 @@
+-- Mirrors of the code's states and steps.
+pub mod Steps
+pub mod Boards
+pub mod Watching
+pub mod Schedules

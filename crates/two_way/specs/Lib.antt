@@ -1,0 +1,2 @@
+pub mod TwoWay
+pub mod Layers
