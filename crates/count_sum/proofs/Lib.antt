@@ -7,3 +7,7 @@ pub mod RingSteps
 pub mod WeaveCounts
 pub mod ReadableGraphs
 pub mod TwoWayBound
+pub mod WaitLayers
+pub mod WaitShapes
+pub mod AddSteps
+pub mod WaitSteps

@@ -10,8 +10,10 @@ mod graphs;
 mod laws;
 mod parts;
 mod rings;
+mod sequencers;
 mod sums;
 mod tally;
+mod waits;
 mod weaves;
 
 pub use count::count_wide;
