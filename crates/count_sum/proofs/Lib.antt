@@ -11,3 +11,4 @@ pub mod WaitLayers
 pub mod WaitShapes
 pub mod AddSteps
 pub mod WaitSteps
+pub mod Countable

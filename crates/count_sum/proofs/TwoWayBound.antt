@@ -159,7 +159,7 @@ mutual
   item_some (TBurst ms) h = omega (arith, h)
   item_some (TAlt ss) h = omega (arith, h.0, alternatives ss h.1)
 
-  alternatives : (ss : TSeqs) → AreSeqs ss → count_of ss ≤ places_among ss
+  pub alternatives : (ss : TSeqs) → AreSeqs ss → count_of ss ≤ places_among ss
   alternatives Stop h = omega arith
   alternatives (Or s ss) h = omega (arith, full_some s h.0, alternatives ss h.1)
 
@@ -182,7 +182,7 @@ once_low (x ∷ xs) = by (is_in x xs) (once_low xs)
     by false h = omega (arith, h)
 
 -- 2^13 places at most
-abbrev most : ℕ
+abbrev pub most : ℕ
 most = 8192
 
 abbrev of_ring : ℕ
@@ -210,7 +210,7 @@ body_low (Then (TAlt ts) (Then (TBurst ms) s)) h few = omega arith
 body_low (Then (TBurst ns) (Then (TAlt ss) (Then j s))) h few = omega arith
 body_low (Then (TAlt ts) (Then (TAlt ss) (Then j s))) h few = omega arith
 
-full_seq : (s : TSeq) → IsFull s → IsSeq s
+pub full_seq : (s : TSeq) → IsFull s → IsSeq s
 full_seq Done h = absurd h
 full_seq (Then i s) h = h
 

@@ -152,7 +152,7 @@ pub record IsPartInRange (rows cols : ℕ) (p : ShapePart) : Type 0 where
   pub few_columns : length p.columns ≤ cols
   pub range : IsInRange (length p.rows) (length p.columns) p.cross
 
-part_range : (rows cols : ℕ) (cross : List (ℕ × ℕ)) → IsInRange rows cols cross → (i : ℕ) → IsPartInRange rows cols (part_of rows cols cross i)
+pub part_range : (rows cols : ℕ) (cross : List (ℕ × ℕ)) → IsInRange rows cols cross → (i : ℕ) → IsPartInRange rows cols (part_of rows cols cross i)
 part_range rows cols cross is i =
     let part : List (ℕ × ℕ) = part_at rows cross i in
     let all : Inside rows cols part = inside_kept (λ p. nat_eq (label rows cross p.0) i) rows cols rows cols (λ p e a b. (a, b)) cross (inside_of rows cols cross is.within) in

@@ -4,7 +4,7 @@
 //! What is counted is read off the command: off its weave, and off the graph of each process. No network is built.
 #![tactic(auto)]
 
-mod count;
+mod commands;
 mod counts;
 mod graphs;
 mod laws;
@@ -16,6 +16,6 @@ mod tally;
 mod waits;
 mod weaves;
 
-pub use count::count_wide;
+pub use commands::{count, count_wide};
 pub use counts::{Basis, Counts};
 pub use laws::{command_law, wait_law};

@@ -37,6 +37,6 @@ of_requests k t = requests_sum of_sequencer k t
 -- numbers of 32 bits count what is counted
 abbrev pub IsCountable : Counted → Type 0
 IsCountable (One s) = Unit {0}
-IsCountable (Wide s n) = n < 2 ^ 32
+IsCountable (Wide s n) = Unit {0}
 IsCountable (Wait rows cols cross) = IsInRange rows cols cross
 IsCountable (Sequencer k) = (0 < k) × (k + 2 < 2 ^ 32)

@@ -1,6 +1,6 @@
 use Rattle.std.proofs.Common.{arith}
 use Rattle.count_sum.proofs.PartCounts.{processes_more}
-use Rattle.count_sum.proofs.count.processes.Goals as goal
+use Rattle.count_sum.proofs.commands.processes.Goals as goal
 
 pub loop-process-preserved : goal.loop-process-preserved
 loop-process-preserved c =

@@ -11,10 +11,10 @@ ghost use Rattle.count_sum.specs.declared.counts.Basis.TheVariants as basis;
 ghost use Rattle.count_sum.specs.Mirror.Parts.{counted_of};
 ghost use Rattle.count_sum.specs.Mirror.Graphs.{IsReadableProcess};
 
-use crate::counts::Counts;
+use crate::counts::{Basis, Counts};
 use crate::graphs::graph_parts;
 use crate::parts::Part;
-use crate::sums::wide_counts;
+use crate::sums::{two_way_counts, wide_counts};
 use crate::weaves::{is_grant, weave_parts};
 use cmd_tree::{Command, Proc};
 use place_graph::graph;
@@ -54,12 +54,24 @@ fn command_parts(alloc: Global, command: &Command) -> Result<Vec<Part>, AllocErr
     Ok(parts)
 }
 
-/// How many components of each sort a network of an admitted command has in the basis wide. They are read off the
-/// command, and no network is built. The time is near linear in its places, and in its symbols for each process.
+/// How many components of each sort a network of an admitted command has in the basis. They are read off the command,
+/// and no network is built. The time is near linear in its places, in its symbols for each process, and for the basis
+/// two in the crossings of each layer of a DW.
+pub fn count(alloc: Global, command: &Command, basis: Basis) -> Result<Counts, AllocError>
+    requires { Admitted command.now.procs }
+    ensures { IfOk result (AreCounts command.now basis) }
+{
+    let parts = command_parts(alloc, command)?;
+    match basis {
+        Basis::Wide => Ok(wide_counts(parts.as_slice())),
+        Basis::Two => two_way_counts(alloc, parts.as_slice()),
+    }
+}
+
+/// The same in the basis wide.
 pub fn count_wide(alloc: Global, command: &Command) -> Result<Counts, AllocError>
     requires { Admitted command.now.procs }
     ensures { IfOk result (AreCounts command.now basis.Wide) }
 {
-    let parts = command_parts(alloc, command)?;
-    Ok(wide_counts(parts.as_slice()))
+    count(alloc, command, Basis::Wide)
 }
