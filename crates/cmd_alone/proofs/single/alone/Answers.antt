@@ -6,7 +6,7 @@ use Rattle.std.proofs.lemmas.Option.{slice_get-get_or}
 use Rattle.cmd_tree.specs.declared.tree.Proc.{Proc}
 use Rattle.cmd_tree.specs.Limits.{IsCommand}
 use Rattle.cmd_rename.specs.Symbols.{symbols_of, renumbered}
-use Rattle.cmd_alone.specs.Alone.{names_in}
+use Rattle.cmd_rename.specs.Symbols.{names_in}
 use Rattle.cmd_alone.proofs.Valid.{few_symbols, names_apart, valid, by_ranks}
 use Rattle.cmd_alone.proofs.single.alone.Goals as goal
 

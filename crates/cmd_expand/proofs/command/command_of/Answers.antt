@@ -5,7 +5,7 @@ use Rattle.cmd_rename.specs.Symbols.{symbols_of, renumbered, counted}
 use Rattle.cmd_expand.specs.declared.plan.Line.{Line}
 use Rattle.cmd_expand.specs.Mirror.Plan.{AreLines}
 use Rattle.cmd_expand.specs.Mirror.Pieces.{numbered_by}
-use Rattle.cmd_expand.specs.Mirror.Main.{names_in}
+use Rattle.cmd_rename.specs.Symbols.{names_in}
 use Rattle.cmd_expand.proofs.Shapes.{line_symbols, main_unfolded}
 use Rattle.cmd_expand.proofs.command.command_of.Goals as goal
 
