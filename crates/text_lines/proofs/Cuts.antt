@@ -6,11 +6,7 @@ use Rattle.std.proofs.lemmas.List.Sums.{fails_before_first}
 use Rattle.std.proofs.lemmas.Slice.{between_to_end}
 use Rattle.std.proofs.lemmas.List.Splits.{slice_split_at, slice_split_first, slice_split_none, slice_split-cons_yes, slice_split-cons_no, join_with_byte-slice_split}
 use Rattle.std.proofs.lemmas.List.Elements.{All-from_recursion}
-use Rattle.net_text.specs.Mirror.PartWords.{pieces}
-
--- no byte of the piece is c
-abbrev pub IsPiece : ℕ → List ℕ → Type 0
-IsPiece c piece = AllByRecursion (λ b. b ≢ c) piece
+use Rattle.text_lines.specs.Pieces.{pieces, IsPiece, line_of}
 
 -- ---- a cut gives one piece or more
 pub record Cut (c : ℕ) (bytes : List ℕ) : Type 0 where
@@ -75,10 +71,6 @@ first_cut c piece rest h = slice_split_at (λ b. eqb b c) piece c rest (All-from
 
 pub one_piece : (c : ℕ) (piece : List ℕ) → IsPiece c piece → pieces c piece ≡ piece ∷ []
 one_piece c piece h = slice_split_none (λ b. eqb b c) piece (All-from_recursion (λ b. eqb b c ≡ false) piece (others c piece h))
-
--- words, with one blank between each two
-abbrev pub line_of : List (List ℕ) → List ℕ
-line_of words = join_with_byte 32 words
 
 pub words_cut : (w : List ℕ) (ws : List (List ℕ)) → AllByRecursion (IsPiece 32) (w ∷ ws) → pieces 32 (line_of (w ∷ ws)) ≡ w ∷ ws
 words_cut w [] h = one_piece 32 w h.0

@@ -7,7 +7,7 @@ use Rattle.std.specs.Cmp.Lexicographic.{nat_list_eq_equiv}
 use Rattle.std.proofs.lemmas.List.{map-append, take-append-drop, take_more, drop_more}
 use Rattle.indexmap.specs.IndexSet.{insert_key}
 use Rattle.cmd_tree.specs.Limits.{is_name}
-use Rattle.cmd_alone.specs.Alone.{names_in}
+use Rattle.cmd_rename.specs.Symbols.{names_in}
 
 -- ---- names that are put one after another
 at_next : (P : List ℕ → Type 0) (ns : List (List ℕ)) (n : List ℕ) (ms : List (List ℕ)) → AllByRecursion P (ns ++ n ∷ ms) → P n
