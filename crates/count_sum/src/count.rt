@@ -11,7 +11,7 @@ ghost use Rattle.count_sum.specs.declared.counts.Basis.TheVariants as basis;
 ghost use Rattle.count_sum.specs.Mirror.Parts.{counted_of};
 ghost use Rattle.count_sum.specs.Mirror.Graphs.{IsReadableProcess};
 
-use crate::counts::Counts;
+use crate::counts::{Basis, Counts};
 use crate::graphs::graph_parts;
 use crate::parts::Part;
 use crate::sums::wide_counts;
@@ -44,7 +44,7 @@ fn processes(alloc: Global, procs: &[Proc], names: usize) -> Result<Vec<Part>, A
 }
 
 /// What is counted of a command.
-fn command_parts(alloc: Global, command: &Command) -> Result<Vec<Part>, AllocError>
+pub fn command_parts(alloc: Global, command: &Command) -> Result<Vec<Part>, AllocError>
     requires { Admitted command.now.procs }
     ensures { IfOk result (λ it. map counted_of it.items ≡ of_command command.now.procs (length command.now.names)) }
 {
@@ -62,4 +62,15 @@ pub fn count_wide(alloc: Global, command: &Command) -> Result<Counts, AllocError
 {
     let parts = command_parts(alloc, command)?;
     Ok(wide_counts(parts.as_slice()))
+}
+
+/// TEMPORARY: the sums in the basis two are another change.
+pub fn count_in(alloc: Global, command: &Command, basis: Basis) -> Result<Counts, AllocError>
+    requires { Admitted command.now.procs }
+    ensures { IfOk result (AreCounts command.now basis) }
+{
+    match basis {
+        Basis::Wide => count_wide(alloc, command),
+        Basis::Two => Err(AllocError),
+    }
 }

@@ -8,12 +8,14 @@ mod count;
 mod counts;
 mod graphs;
 mod laws;
+mod narrow;
 mod parts;
 mod rings;
 mod sums;
 mod tally;
 mod weaves;
 
-pub use count::count_wide;
+pub use count::{count_in, count_wide};
 pub use counts::{Basis, Counts};
 pub use laws::{command_law, wait_law};
+pub use narrow::is_narrow;

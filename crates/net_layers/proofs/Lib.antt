@@ -1,0 +1,2 @@
+pub mod WaitParts
+pub mod KindSums
