@@ -89,7 +89,8 @@ fn wide_net(alloc: Global, command: &Command) -> Result<Net, AllocError>
 {
     let weave = weave_net(alloc, command)?;
     let parts = part_nets(alloc, &weave)?;
-    splice_all(alloc, &weave, parts.as_slice())
+    let whole = splice_all(alloc, &weave, parts.as_slice())?;
+    Ok(whole)
 }
 
 /// What takes the places of the components: of a process its network, and of a kind nothing.

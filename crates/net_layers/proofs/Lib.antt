@@ -1,2 +1,4 @@
 pub mod WaitParts
 pub mod KindSums
+pub mod Layered
+pub mod FewWires
