@@ -7,3 +7,7 @@ mod calls;
 mod compiled;
 #[cfg(test)]
 mod judged;
+#[cfg(test)]
+mod probes;
+#[cfg(test)]
+mod replayed;

@@ -3,5 +3,7 @@ pub mod Endings
 pub mod FormAnswers
 pub mod ListAnswers
 pub mod Loads
+pub mod Replays
+pub mod RunAnswers
 pub mod Sourcing
 pub mod Stops
