@@ -1,12 +1,12 @@
 //! Whole calls that replay a schedule on a netlist.
-use crate::calls::{Ran, call_on, shelf_of};
+use crate::calls::{Ran, call_on, repeated, shelf_of};
 use di_top::Outcome;
 use std::alloc::Global;
 use std::process::Abort;
 use std::test::Fail;
 
 // Calls where the file N has this netlist, and the file S this schedule.
-fn replay(alloc: Global, words: &str, netlist: &str, schedule: &str) -> Result<Ran, Fail> {
+pub fn replay(alloc: Global, words: &str, netlist: &str, schedule: &str) -> Result<Ran, Fail> {
     let shelf = shelf_of(
         alloc,
         &[("N", netlist), ("S", schedule)],
@@ -178,10 +178,8 @@ fn refuses_texts(rt: HostRuntime) -> Result<(), Fail> {
 #[test]
 fn refuses_long_files(rt: HostRuntime) -> Result<(), Fail> {
     let alloc = rt.alloc();
-    let mut long = String::with_capacity(alloc, 16_777_217)?;
-    for _ in 0..16_777_217u32 {
-        long.push('x')?;
-    }
+    let piece = repeated(alloc, "", "................", 4096, "")?;
+    let long = repeated(alloc, "", piece.as_str(), 256, ".")?;
     let line = "limit L7: found 16777217, allowed 16777216\n";
     for (netlist, schedule) in [(long.as_str(), ""), ("", long.as_str())] {
         let ran = replay(alloc, "run N S", netlist, schedule)?;

@@ -2,6 +2,7 @@ pub mod Compiling
 pub mod Endings
 pub mod FormAnswers
 pub mod ListAnswers
+pub mod Keeping
 pub mod Loads
 pub mod Replays
 pub mod RunAnswers
