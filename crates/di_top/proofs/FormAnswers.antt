@@ -2,12 +2,13 @@
 use Rattle.std.proofs.Common.{◌≡◌, arith, ℕ, List, Option, Some, None, refl, sym, ◌∙◌, subst, inl, inr}
 use Rattle.std.specs.Prelude.{⊤}
 use Rattle.cmd_tree.specs.declared.tree.Proc.{Proc}
+use Rattle.cmd_tree.specs.declared.limits.TheConstants.{MAX_FILE_BYTES}
 use Rattle.di_top.specs.declared.outcome.Outcome.{Outcome}
 use Rattle.di_top.specs.declared.outcome.Outcome.TheVariants.{Done}
-use Rattle.di_top.specs.Requests.{Request, CompileWide, Check, Rules, files_of}
+use Rattle.di_top.specs.Requests.{Request, CompileWide, Check, Rules, Run, files_of}
 use Rattle.di_top.specs.Calls.{Reading, Unread, Quiet, Tells}
 use Rattle.di_top.specs.CommandFiles as held
-use Rattle.di_top.specs.CommandFiles.{StopsWith, IsAdmittedText, IsSuited, FileHolds, FileGives, Fault, Bytes, Taken, FileAdmits}
+use Rattle.di_top.specs.CommandFiles.{command_cap, StopsWith, IsAdmittedText, IsSuited, FileHolds, FileGives, Fault, Bytes, Taken, FileAdmits}
 use Rattle.di_top.specs.CompileForm.{Compiles, CompileUses, CompileGives, CompileAdmits}
 use Rattle.di_top.specs.CheckForm.{CheckUses, CheckGives, CheckAdmits}
 use Rattle.di_top.specs.Outcomes.{FormGives, Gives, Prints, Admits}
@@ -15,13 +16,14 @@ use Rattle.di_top.specs.RulesForm.{Judged}
 use Rattle.di_top.proofs.Loads.{loaded_whole, whole_loaded, one_load}
 use Rattle.di_top.proofs.Stops.{not_stopped, one_text, one_stop, stops_are_stops}
 use Rattle.di_top.proofs.ListAnswers.{rules_only, printed_admits, rules_answer, admits_lists}
+use Rattle.di_top.proofs.RunAnswers.{run_only, run_printed, run_answer, run_admitted}
 
 -- the file of an admitted command that suits
 holds_admits : (Suits : List Proc → Type 0) (r : Reading) (file : List ℕ) (names : List (List ℕ)) (procs : List Proc) → FileHolds r file names procs
     → Suits procs → (all : List ℕ) → r.content file ≡ Some all → FileAdmits Suits r file
 holds_admits Suits r file names procs h s all told =
     let P : List ℕ → Type 0 = λ b. IsAdmittedText b names procs in
-    let same : h.bytes ≡ all = loaded_whole r file h.bytes h.loaded h.admitted.source.read.few all told in
+    let same : h.bytes ≡ all = loaded_whole MAX_FILE_BYTES r file h.bytes h.loaded h.admitted.source.read.few all told in
     record { content = all; told = told; suited = record { names = names; procs = procs; text = subst P same h.admitted; suits = s } }
 
 file_only : (Used : List Proc → Outcome → Type 0) (Suits : List Proc → Type 0) → ((procs : List Proc) → Used procs Done → Suits procs)
@@ -49,6 +51,8 @@ gives_admitted (Some (Check file)) r (inl e) t = absurd (cc)
 gives_admitted (Some (Check file)) r (inr g) t = check_only r file g t.0.0 t.0.1
 gives_admitted (Some (Rules file)) r (inl e) t = absurd (cc)
 gives_admitted (Some (Rules file)) r (inr g) t = rules_only r file g t.0.0 t.0.1
+gives_admitted (Some (Run netlist schedule kept)) r (inl e) t = absurd (cc)
+gives_admitted (Some (Run netlist schedule kept)) r (inr g) t = run_only r netlist schedule g t.0 t.1.0
 
 pub prints_admitted : (request : Option Request) (r : Reading) (text : List ℕ) → Prints request r text → Tells r (files_of request) → Admits request r
 prints_admitted None r text p t = absurd p
@@ -56,6 +60,7 @@ prints_admitted (Some (CompileWide file)) r text p t =
     holds_admits Compiles r file p.command.names p.command.procs p.held p.compiles t.0.0 t.0.1
 prints_admitted (Some (Check file)) r text p t = holds_admits (λ procs. ⊤) r file p.names p.procs p.held tt t.0.0 t.0.1
 prints_admitted (Some (Rules file)) r text p t = printed_admits r file p.bytes text p.loaded p.judged t.0.0 t.0.1
+prints_admitted (Some (Run netlist schedule kept)) r text p t = run_printed r netlist schedule kept text p.0 p.1 t.0 t.1.0
 
 -- ---- one outcome
 file_answer : (Used : List Proc → Outcome → Type 0) → ((procs : List Proc) (a b : Outcome) → Used procs a → Used procs b → a ≡ b)
@@ -65,18 +70,18 @@ file_answer Used once r file told quiet a b (held.Stopped (Fault rose e)) h = ab
 file_answer Used once r file told quiet a b (held.Stopped (Bytes bytes l s)) (held.Stopped (Fault rose e)) = absurd (quiet rose)
 file_answer Used once r file told quiet a b (held.Stopped (Bytes bytes l s)) (held.Stopped (Bytes others m t)) =
     let P : List ℕ → Type 0 = λ x. StopsWith x a in
-    one_stop others a b (subst P (one_load r file bytes others told l m) s) t
+    one_stop others a b (subst P (one_load command_cap r file bytes others told l m) s) t
 file_answer Used once r file told quiet a b (held.Stopped (Bytes bytes l s)) (Taken names procs h u) =
     let P : List ℕ → Type 0 = λ x. StopsWith x a in
-    absurd (not_stopped h.bytes names procs a h.admitted (subst P (one_load r file bytes h.bytes told l h.loaded) s))
+    absurd (not_stopped h.bytes names procs a h.admitted (subst P (one_load command_cap r file bytes h.bytes told l h.loaded) s))
 file_answer Used once r file told quiet a b (Taken names procs h u) (held.Stopped (Fault rose e)) = absurd (quiet rose)
 file_answer Used once r file told quiet a b (Taken names procs h u) (held.Stopped (Bytes others m t)) =
     let P : List ℕ → Type 0 = λ x. StopsWith x b in
-    absurd (not_stopped h.bytes names procs b h.admitted (subst P (one_load r file others h.bytes told m h.loaded) t))
+    absurd (not_stopped h.bytes names procs b h.admitted (subst P (one_load command_cap r file others h.bytes told m h.loaded) t))
 file_answer Used once r file told quiet a b (Taken names procs h u) (Taken others qrocs k v) =
     let P : List ℕ → Type 0 = λ x. IsAdmittedText x names procs in
     let Q : List Proc → Type 0 = λ ps. Used ps a in
-    let t : IsAdmittedText k.bytes names procs = subst P (one_load r file h.bytes k.bytes told h.loaded k.loaded) h.admitted in
+    let t : IsAdmittedText k.bytes names procs = subst P (one_load command_cap r file h.bytes k.bytes told h.loaded k.loaded) h.admitted in
     once qrocs a b (subst Q (one_text k.bytes names others procs qrocs t k.admitted) u) v
 
 compile_once : (procs : List Proc) (a b : Outcome) → CompileUses procs a → CompileUses procs b → a ≡ b
@@ -94,13 +99,14 @@ one_answer None r t q a b e h = e ∙ sym h
 one_answer (Some (CompileWide file)) r t q a b g h = file_answer CompileUses compile_once r file t.0 q.0 a b g h
 one_answer (Some (Check file)) r t q a b g h = file_answer CheckUses check_once r file t.0 q.0 a b g h
 one_answer (Some (Rules file)) r t q a b g h = rules_answer r file t.0 q.0 a b g h
+one_answer (Some (Run netlist schedule kept)) r t q a b g h = run_answer r netlist schedule t.0 t.1.0 q.0 q.1.0 a b g h
 
 -- ---- what is admitted is done
 admits_holds : (Suits : List Proc → Type 0) (r : Reading) (file : List ℕ) (a : FileAdmits Suits r file)
     → FileHolds r file a.suited.names a.suited.procs
 admits_holds Suits r file a = record {
   bytes = a.content;
-  loaded = whole_loaded r file a.content a.told a.suited.text.source.read.few;
+  loaded = whole_loaded MAX_FILE_BYTES r file a.content a.told a.suited.text.source.read.few;
   admitted = a.suited.text;
 }
 
@@ -109,6 +115,7 @@ admits_told None r a = absurd a
 admits_told (Some (CompileWide file)) r a = ((a.content, a.told), tt)
 admits_told (Some (Check file)) r a = ((a.content, a.told), tt)
 admits_told (Some (Rules file)) r a = ((a.content, a.told), tt)
+admits_told (Some (Run netlist schedule kept)) r a = ((a.bytes, a.told), ((a.more, a.more_told), tt))
 
 pub admits_gives : (request : Option Request) (r : Reading) → Admits request r → FormGives request r Done
 admits_gives None r a = absurd a
@@ -116,3 +123,4 @@ admits_gives (Some (CompileWide file)) r a =
     Taken a.suited.names a.suited.procs (admits_holds Compiles r file a) (inl (a.suited.suits, refl))
 admits_gives (Some (Check file)) r a = Taken a.suited.names a.suited.procs (admits_holds (λ procs. ⊤) r file a) refl
 admits_gives (Some (Rules file)) r a = Judged a.names a.dirs a.traces (admits_lists r file a) refl
+admits_gives (Some (Run netlist schedule kept)) r a = run_admitted r netlist schedule a

@@ -1,5 +1,6 @@
 -- What compiling a file promises where the shelf tells its content and out tells its bytes, and nothing failed.
 use Rattle.std.specs.Prelude.{◌≡◌, ◌≢◌, ◌↔◌, ℕ, List, ◌++◌, Some}
+use Rattle.replay.specs.Probes.{View}
 use Rattle.di_top.specs.declared.outcome.Outcome.{Outcome}
 use Rattle.di_top.specs.declared.outcome.Outcome.TheVariants.{Done, NoMemory}
 use Rattle.di_top.specs.Requests.{CompileWide}
@@ -22,8 +23,8 @@ pub record Headline (content before : List ℕ) (out : Change) (outcome : Outcom
   pub stopped : outcome ≢ Done → out.new ≡ Some before
 
 -- a call with the words `compile wide F` in which memory was not missing and no count rose
-pub record Faultless (r : Reading) (file content before : List ℕ) (out say : Change) (outcome : Outcome) : Type 0 where
-  pub promise : Promise (Some (CompileWide file)) r out say outcome
+pub record Faultless (r : Reading) (file content before : List ℕ) (out say : Change) (back : List View) (outcome : Outcome) : Type 0 where
+  pub promise : Promise (Some (CompileWide file)) r out say back outcome
   pub content_told : r.content file ≡ Some content
   pub out_told : out.old ≡ Some before
   pub read : Unread r file → ⊥
