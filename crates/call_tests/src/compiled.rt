@@ -143,7 +143,7 @@ fn compiles_nested_choices(rt: HostRuntime) -> Result<(), Fail> {
     Ok(())
 }
 
-fn lines_of(bytes: &[u8], kind: &[u8]) -> usize {
+pub fn lines_of(bytes: &[u8], kind: &[u8]) -> usize {
     let mut count: usize = 0;
     for line in bytes.split(|byte| *byte == b'\n') {
         if line.starts_with(kind) {

@@ -10,6 +10,8 @@ mod hazards;
 #[cfg(test)]
 mod judged;
 #[cfg(test)]
+mod layered;
+#[cfg(test)]
 mod probes;
 #[cfg(test)]
 mod replayed;

@@ -3,9 +3,10 @@ use Rattle.std.proofs.Common.{◌≡◌, ◌≢◌, ◌<◌, ℕ, List, Option, 
 use Rattle.std.specs.Prelude.{◌⊎◌, []}
 use Rattle.cmd_tree.specs.declared.limits.TheConstants.{MAX_FILE_BYTES}
 use Rattle.replay.specs.Probes.{View}
+use Rattle.count_sum.specs.declared.counts.Basis.{Basis}
 use Rattle.di_top.specs.declared.outcome.Outcome.{Outcome}
 use Rattle.di_top.specs.declared.outcome.Outcome.TheVariants.{Done, Usage, WriteFault, NoMemory}
-use Rattle.di_top.specs.Requests.{Request, CompileWide, files_of}
+use Rattle.di_top.specs.Requests.{Request, Compile, files_of}
 use Rattle.di_top.specs.Calls.{Reading, Change, Quiet, Tells, Failed, Unchanged, Gained, GainedFront}
 use Rattle.di_top.specs.CommandFiles.{IsAdmittedText, IsSuited}
 use Rattle.di_top.specs.CompileForm.{Compiles, CompileAdmits}
@@ -185,21 +186,21 @@ pub complete : (request : Option Request) (r : Reading) (out say : Change) (back
 complete request r out say back outcome p a q fo fs = p.exact (admits_told request r a) q fo fs Done (admits_gives request r a)
 
 -- a call that did not fail gave an outcome of its form
-gave : (r : Reading) (file content before : List ℕ) (out say : Change) (back : List View) (outcome : Outcome)
-    → Faultless r file content before out say back outcome → Gives (Some (CompileWide file)) r outcome
-gave r file content before out say back outcome f = elim f.promise.order [
+gave : (basis : Basis) (r : Reading) (file content before : List ℕ) (out say : Change) (back : List View) (outcome : Outcome)
+    → Faultless basis r file content before out say back outcome → Gives (Some (Compile basis file)) r outcome
+gave basis r file content before out say back outcome f = elim f.promise.order [
   | inl w ↦ elim (f.promise.write_fault w) [ inl o ↦ absurd (f.written o) | inr s ↦ absurd (f.said s) ]
   | inr g ↦ g
 ]
 
-unbroken : (r : Reading) (file content before : List ℕ) (out say : Change) (back : List View) (outcome : Outcome)
-    → Faultless r file content before out say back outcome → outcome ≢ WriteFault
-unbroken r file content before out say back outcome f w =
+unbroken : (basis : Basis) (r : Reading) (file content before : List ℕ) (out say : Change) (back : List View) (outcome : Outcome)
+    → Faultless basis r file content before out say back outcome → outcome ≢ WriteFault
+unbroken basis r file content before out say back outcome f w =
     elim (f.promise.write_fault w) [ inl o ↦ f.written o | inr s ↦ f.said s ]
 
-appended : (r : Reading) (file content before : List ℕ) (out say : Change) (back : List View) (outcome : Outcome)
-    → Faultless r file content before out say back outcome → outcome ≡ Done → Appended content before out
-appended r file content before out say back outcome f d =
+appended : (basis : Basis) (r : Reading) (file content before : List ℕ) (out say : Change) (back : List View) (outcome : Outcome)
+    → Faultless basis r file content before out say back outcome → outcome ≡ Done → Appended basis content before out
+appended basis r file content before out say back outcome f d =
     let p = (f.promise.done d).0 in
     let q = p.prints in
     let P : List ℕ → Type 0 = λ b. IsAdmittedText b q.command.names q.command.procs in
@@ -215,28 +216,28 @@ appended r file content before out say back outcome f d =
       gained = p.gained before f.out_told;
     }
 
-done_admitted : (r : Reading) (file content before : List ℕ) (out say : Change) (back : List View) (outcome : Outcome)
-    → Faultless r file content before out say back outcome → outcome ≡ Done → IsSuited Compiles content
-done_admitted r file content before out say back outcome f d =
-    let P : Outcome → Type 0 = λ o. Gives (Some (CompileWide file)) r o in
-    let Q : List ℕ → Type 0 = IsSuited Compiles in
-    let g = subst P d (gave r file content before out say back outcome f) in
-    let a = gives_admitted (Some (CompileWide file)) r g ((content, f.content_told), tt) in
+done_admitted : (basis : Basis) (r : Reading) (file content before : List ℕ) (out say : Change) (back : List View) (outcome : Outcome)
+    → Faultless basis r file content before out say back outcome → outcome ≡ Done → IsSuited (Compiles basis) content
+done_admitted basis r file content before out say back outcome f d =
+    let P : Outcome → Type 0 = λ o. Gives (Some (Compile basis file)) r o in
+    let Q : List ℕ → Type 0 = IsSuited (Compiles basis) in
+    let g = subst P d (gave basis r file content before out say back outcome f) in
+    let a = gives_admitted (Some (Compile basis file)) r g ((content, f.content_told), tt) in
     subst Q (some_same a.content content (r.content file) a.told f.content_told) a.suited
 
-admitted_done : (r : Reading) (file content before : List ℕ) (out say : Change) (back : List View) (outcome : Outcome)
-    → Faultless r file content before out say back outcome → IsSuited Compiles content → outcome ≡ Done
-admitted_done r file content before out say back outcome f a =
-    let fits : CompileAdmits r file = record { content = content; told = f.content_told; suited = a } in
-    elim (complete (Some (CompileWide file)) r out say back outcome f.promise fits (f.read, tt) f.written f.said) [
+admitted_done : (basis : Basis) (r : Reading) (file content before : List ℕ) (out say : Change) (back : List View) (outcome : Outcome)
+    → Faultless basis r file content before out say back outcome → IsSuited (Compiles basis) content → outcome ≡ Done
+admitted_done basis r file content before out say back outcome f a =
+    let fits : CompileAdmits basis r file = record { content = content; told = f.content_told; suited = a } in
+    elim (complete (Some (Compile basis file)) r out say back outcome f.promise fits (f.read, tt) f.written f.said) [
       | inl m ↦ absurd (f.memory m)
       | inr d ↦ d
     ]
 
-pub headline : (r : Reading) (file content before : List ℕ) (out say : Change) (back : List View) (outcome : Outcome)
-    → Faultless r file content before out say back outcome → Headline content before out outcome
-headline r file content before out say back outcome f = record {
-  exactly = (done_admitted r file content before out say back outcome f, admitted_done r file content before out say back outcome f);
-  done = appended r file content before out say back outcome f;
-  stopped = λ n. (f.promise.stopped n (unbroken r file content before out say back outcome f)).0.0 ∙ f.out_told;
+pub headline : (basis : Basis) (r : Reading) (file content before : List ℕ) (out say : Change) (back : List View) (outcome : Outcome)
+    → Faultless basis r file content before out say back outcome → Headline basis content before out outcome
+headline basis r file content before out say back outcome f = record {
+  exactly = (done_admitted basis r file content before out say back outcome f, admitted_done basis r file content before out say back outcome f);
+  done = appended basis r file content before out say back outcome f;
+  stopped = λ n. (f.promise.stopped n (unbroken basis r file content before out say back outcome f)).0.0 ∙ f.out_told;
 }

@@ -3,7 +3,7 @@ use Rattle.std.specs.Prelude.{◌≡◌, ◌⊎◌, ℕ, List, [], Option, Some,
 use Rattle.replay.specs.Probes.{View}
 use Rattle.di_top.specs.declared.outcome.Outcome.{Outcome}
 use Rattle.di_top.specs.declared.outcome.Outcome.TheVariants.{Usage, NoMemory}
-use Rattle.di_top.specs.Requests.{Request, CompileWide, Check, Rules, Run}
+use Rattle.di_top.specs.Requests.{Request, Compile, Check, Rules, Run}
 use Rattle.di_top.specs.Calls.{Reading}
 use Rattle.di_top.specs.CompileForm.{CompileGives, CompilePrints, CompileAdmits}
 use Rattle.di_top.specs.CheckForm.{CheckGives, CheckPrints, CheckAdmits}
@@ -13,7 +13,7 @@ use Rattle.di_top.specs.RunForm.{RunGives, RunNames, RunPrints, RunHands, RunAdm
 -- the outcomes that the order of a form allows, want of memory and writing apart
 abbrev pub FormGives : Option Request → Reading → Outcome → Type 0
 FormGives None r outcome = outcome ≡ Usage
-FormGives (Some (CompileWide file)) r outcome = CompileGives r file outcome
+FormGives (Some (Compile basis file)) r outcome = CompileGives basis r file outcome
 FormGives (Some (Check file)) r outcome = CheckGives r file outcome
 FormGives (Some (Rules file)) r outcome = RulesGives r file outcome
 FormGives (Some (Run netlist schedule kept)) r outcome = RunGives r netlist schedule outcome
@@ -25,7 +25,7 @@ Gives request r outcome = (outcome ≡ NoMemory) ⊎ FormGives request r outcome
 -- what is printed where the form is done
 abbrev pub Prints : Option Request → Reading → List ℕ → Type 0
 Prints None r text = ⊥
-Prints (Some (CompileWide file)) r text = CompilePrints r file text
+Prints (Some (Compile basis file)) r text = CompilePrints basis r file text
 Prints (Some (Check file)) r text = CheckPrints r file text
 Prints (Some (Rules file)) r text = RulesPrints r file text
 Prints (Some (Run netlist schedule kept)) r text = RunPrints r netlist schedule kept text
@@ -33,7 +33,7 @@ Prints (Some (Run netlist schedule kept)) r text = RunPrints r netlist schedule 
 -- the probes that are handed back where the form is done and this is printed: that of a run, which has seen it
 abbrev pub HandsBack : Option Request → Reading → List ℕ → List View → Type 0
 HandsBack None r text back = back ≡ []
-HandsBack (Some (CompileWide file)) r text back = back ≡ []
+HandsBack (Some (Compile basis file)) r text back = back ≡ []
 HandsBack (Some (Check file)) r text back = back ≡ []
 HandsBack (Some (Rules file)) r text back = back ≡ []
 HandsBack (Some (Run netlist schedule kept)) r text back = RunHands r netlist schedule kept text back
@@ -42,7 +42,7 @@ HandsBack (Some (Run netlist schedule kept)) r text back = RunHands r netlist sc
 -- of any other outcome has no names.
 abbrev pub HasNames : Option Request → Reading → Outcome → List (List ℕ) → Type 0
 HasNames None r outcome names = ⊤
-HasNames (Some (CompileWide file)) r outcome names = ⊤
+HasNames (Some (Compile basis file)) r outcome names = ⊤
 HasNames (Some (Check file)) r outcome names = ⊤
 HasNames (Some (Rules file)) r outcome names = ⊤
 HasNames (Some (Run netlist schedule kept)) r outcome names = RunNames r netlist outcome names
@@ -50,7 +50,7 @@ HasNames (Some (Run netlist schedule kept)) r outcome names = RunNames r netlist
 -- the contents of the files for which the form is done
 abbrev pub Admits : Option Request → Reading → Type 0
 Admits None r = ⊥
-Admits (Some (CompileWide file)) r = CompileAdmits r file
+Admits (Some (Compile basis file)) r = CompileAdmits basis r file
 Admits (Some (Check file)) r = CheckAdmits r file
 Admits (Some (Rules file)) r = RulesAdmits r file
 Admits (Some (Run netlist schedule kept)) r = RunAdmits r netlist schedule

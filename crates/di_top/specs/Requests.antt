@@ -1,19 +1,29 @@
 -- What the words after the program's name ask for. Each form of words is a case.
-use Rattle.std.specs.Prelude.{ℕ, List, [], ◌∷◌, Option, Some, None, map, codes, ◌&&◌, if◌then◌else◌, nat_eq, string_bytes}
+use Rattle.std.specs.Prelude.{ℕ, List, [], ◌∷◌, Option, Some, None, map, codes, if◌then◌else◌, nat_eq, string_bytes}
 use Rattle.std.specs.Str.{bytes_eq}
 use Rattle.std.specs.declared.string.String.{String}
 use Rattle.std.specs.declared.alloc.Global.{Global}
+use Rattle.count_sum.specs.declared.counts.Basis.{Basis}
+use Rattle.count_sum.specs.declared.counts.Basis.TheVariants.{Wide, Two}
 use Rattle.replay.specs.Probes.{View}
 
 pub data Request : Type 0 where
-  -- the netlist of the command in this file
-  CompileWide : (file : List ℕ) → Request
+  -- the netlist of the command in this file, in the basis
+  Compile : (basis : Basis) (file : List ℕ) → Request
   -- whether the command in this file is admitted
   Check : (file : List ℕ) → Request
   -- whether the list of traces in this file keeps the rules of delay-insensitivity
   Rules : (file : List ℕ) → Request
   -- whether the schedule in the second file is a run of the netlist in the first, watched by the kept probes: none, or one
   Run : (netlist schedule : List ℕ) → (kept : List View) → Request
+
+-- the basis of this name
+abbrev pub basis_of : List ℕ → Option Basis
+basis_of word = if bytes_eq word (codes "wide") then Some Wide else if bytes_eq word (codes "two") then Some Two else None
+
+abbrev pub compile_in : Option Basis → List ℕ → Option Request
+compile_in None file = None
+compile_in (Some basis) file = Some (Compile basis file)
 
 -- the rule of the probe of this name
 abbrev pub rule_of : List ℕ → Option ℕ
@@ -37,7 +47,7 @@ run_by netlist schedule (Some v) = Some (Run netlist schedule (v ∷ []))
 -- there.
 abbrev pub request_of : List (List ℕ) → List View → Option Request
 request_of (verb ∷ first ∷ second ∷ []) vs =
-    if bytes_eq verb (codes "compile") && bytes_eq first (codes "wide") then Some (CompileWide second)
+    if bytes_eq verb (codes "compile") then compile_in (basis_of first) second
     else if bytes_eq verb (codes "run") then Some (Run first second [])
     else None
 request_of (verb ∷ file ∷ []) vs =
@@ -54,7 +64,7 @@ asked words vs = request_of (map string_bytes words) vs
 -- the names of the files that are read, in order
 abbrev pub files_of : Option Request → List (List ℕ)
 files_of None = []
-files_of (Some (CompileWide file)) = file ∷ []
+files_of (Some (Compile basis file)) = file ∷ []
 files_of (Some (Check file)) = file ∷ []
 files_of (Some (Rules file)) = file ∷ []
 files_of (Some (Run netlist schedule kept)) = netlist ∷ schedule ∷ []

@@ -44,7 +44,9 @@ pub fn decide<P: Probe, F: Shelf>(
     ensures later { (other : List ℕ) → F.faults shelf.old other ≤ F.faults shelf.new other }
 {
     match task {
-        Task::CompileWide { file } => unwatched(alloc, plan_compile(alloc, file, shelf)),
+        Task::Compile { basis, file } => {
+            unwatched(alloc, plan_compile(alloc, basis, file, shelf))
+        }
         Task::Check { file } => unwatched(alloc, plan_check(alloc, file, shelf)),
         Task::Rules { file } => unwatched(alloc, plan_rules(alloc, file, shelf)),
         Task::Run {

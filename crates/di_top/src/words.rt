@@ -1,16 +1,17 @@
 ghost use Rattle.std.specs.Prelude.{◌≡◌, List, option_map, string_bytes};
 ghost use Rattle.replay.specs.Probes.{View, views_of};
-ghost use Rattle.di_top.specs.Requests.{asked, rule_of, first_with, run_by};
+ghost use Rattle.di_top.specs.Requests.{asked, basis_of, compile_in, rule_of, first_with, run_by};
 ghost use Rattle.di_top.specs.Asked.{meant, asked_by, wanted_by};
 
 use crate::keep::{COUNT_RULE, PEAK_RULE, keep};
+use di_compile::Basis;
 use replay::Probe;
 
 /// What the words after the program's name ask for. Files are named as the words name them.
 #[derive(Clone, Copy)]
 pub enum Task<'a> {
-    /// The netlist of the command in this file.
-    CompileWide { file: &'a str },
+    /// The netlist of the command in this file, in this basis.
+    Compile { basis: Basis, file: &'a str },
     /// Whether the command in this file is admitted.
     Check { file: &'a str },
     /// Whether the list of traces in this file keeps the rules of delay-insensitivity.
@@ -47,7 +48,7 @@ impl Task<'_> {
     {
         match self {
             Task::Run { wanted, .. } => *wanted,
-            Task::CompileWide { .. } | Task::Check { .. } | Task::Rules { .. } => None,
+            Task::Compile { .. } | Task::Check { .. } | Task::Rules { .. } => None,
         }
     }
 }
@@ -57,11 +58,7 @@ fn read_task(words: &[String]) -> Option<Task<'_>>
     ensures { (vs : List View) → asked_by result vs ≡ asked words.now vs }
 {
     match words {
-        [verb, basis, file] if verb.as_str() == "compile" && basis.as_str() == "wide" => {
-            Some(Task::CompileWide {
-                file: file.as_str(),
-            })
-        }
+        [verb, basis, file] if verb.as_str() == "compile" => compile_task(basis, file),
         [verb, netlist, schedule] if verb.as_str() == "run" => Some(Task::Run {
             netlist: netlist.as_str(),
             schedule: schedule.as_str(),
@@ -76,6 +73,29 @@ fn read_task(words: &[String]) -> Option<Task<'_>>
         [verb, netlist, schedule, probe] if verb.as_str() == "run" => {
             watched_run(netlist, schedule, probe)
         }
+        _ => None,
+    }
+}
+
+fn compile_task<'a>(basis: &String, file: &'a String) -> Option<Task<'a>>
+    ensures { (vs : List View) → asked_by result vs ≡ compile_in (basis_of (string_bytes basis.now)) (string_bytes file.now) }
+{
+    match basis_of(basis.as_str()) {
+        Some(basis) => Some(Task::Compile {
+            basis,
+            file: file.as_str(),
+        }),
+        None => None,
+    }
+}
+
+/// The basis of this name.
+fn basis_of(name: &str) -> Option<Basis>
+    ensures { result ≡ basis_of name.now }
+{
+    match name {
+        "wide" => Some(Basis::Wide),
+        "two" => Some(Basis::Two),
         _ => None,
     }
 }

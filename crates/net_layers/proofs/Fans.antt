@@ -1,5 +1,5 @@
 -- The layers of FORKs, Cs and MERGEs: their components are FORKs, Cs and MERGEs again, and their wires are few.
-use Rattle.std.proofs.Common.{◌≡◌, ℕ, zero, suc, ◌+◌, ◌-◌, ◌*◌, ◌≤◌, Bool, true, false, nat_lt, List, [], ◌∷◌, ◌++◌, Option, None, Some, Result, Ok, Err, IfOk, refl, sym, ap, ◌∙◌, subst, arith, if◌then◌else◌}
+use Rattle.std.proofs.Common.{◌≡◌, ◌⊎◌, inl, inr, ℕ, zero, suc, ◌+◌, ◌-◌, ◌*◌, ◌≤◌, Bool, true, false, nat_lt, List, [], ◌∷◌, ◌++◌, Option, None, Some, Result, Ok, Err, IfOk, refl, sym, ap, ◌∙◌, subst, arith, if◌then◌else◌}
 use Rattle.std.specs.Option.{IfSome}
 use Rattle.std.proofs.lemmas.Bool.Decides.{nat_tests}
 use Rattle.basic_kinds.specs.declared.kind.Kind.{Kind}
@@ -79,3 +79,8 @@ pub if_laid : {E : Type 0} (k : Kind) → IsFan k → (r : Result (Option Circui
     → IfOk r (λ net. IfSome net (λ it. it.wires ≤ inputs_of k + outputs_of k + 2)) → IfOk r (IsLaid k)
 if_laid k fan (Ok net) split is few = fan_laid k fan net split is few
 if_laid k fan (Err e) split is few = tt
+
+pub fan_here : (k : Kind) → ((n : ℕ) × (k ≡ Fork n)) ⊎ (((n : ℕ) × (k ≡ C n)) ⊎ ((n : ℕ) × (k ≡ Merge n))) → IsFan k
+fan_here k (inl (n, e)) = subst IsFan (sym e) tt
+fan_here k (inr (inl (n, e))) = subst IsFan (sym e) tt
+fan_here k (inr (inr (n, e))) = subst IsFan (sym e) tt

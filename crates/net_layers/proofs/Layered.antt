@@ -1,10 +1,11 @@
 -- The layers in their places: what the network keeps, and that its components become lighter.
-use Rattle.std.proofs.Common.{◌≡◌, ℕ, zero, suc, ◌+◌, ◌-◌, ◌*◌, ◌<◌, ◌≤◌, ◌^◌, Bool, true, false, true≢false, nat_lt, IsTrue, is_some, List, [], ◌∷◌, ◌++◌, length, map, take, Option, Some, None, slice_get, refl, sym, ap, ◌∙◌, subst, arith, if◌then◌else◌}
+use Rattle.std.proofs.Common.{◌≡◌, ℕ, zero, suc, ◌+◌, ◌-◌, ◌*◌, ◌<◌, ◌≤◌, ◌^◌, Bool, true, false, true≢false, nat_lt, IsTrue, is_some, List, [], ◌∷◌, ◌++◌, length, map, take, Option, Some, None, slice_get, get_or, refl, sym, ap, ◌∙◌, subst, arith, if◌then◌else◌}
 use Rattle.std.specs.Prelude.{drop, ◌||◌}
 use Rattle.std.specs.List.{AllByRecursion, sum_by, list_any}
 use Rattle.std.proofs.lemmas.Bool.{cases_Bool}
 use Rattle.std.proofs.lemmas.Bool.Decides.{nat_tests}
 use Rattle.std.proofs.lemmas.List.Sums.{sum_by-cons}
+use Rattle.std.proofs.lemmas.Option.{slice_get-get_or}
 use Rattle.basic_kinds.specs.declared.kind.Kind.{Kind}
 use Rattle.basic_kinds.specs.Sorts.{Sort, Wires, Iwires, Sources, Sinks, Forks, Joins, Merges, Toggles, Waits, Sequencers, how_many}
 use Rattle.net_core.specs.declared.spec.NodeSpec.{NodeSpec}
@@ -199,21 +200,8 @@ laid_next (y ∷ xs) (suc n) x ps p l e h i =
     let up : suc n + 1 - 1 ≡ suc n = omega arith in
     subst (λ k. AreLaid (take k xs) (ps ++ p ∷ [])) (sym up) (lay_next xs n x ps p e (subst (λ k. AreLaid (take k xs) ps) down h) i)
 
--- what holds of each node but the first, at its place
-pub passes_at : (test : NodeSpec → Bool) (xs : List Node) (n : ℕ) (x : Node) → AllByRecursion (λ x. IsTrue (test x.spec)) (drop 1 xs) → 1 ≤ n → slice_get xs n ≡ Some x → IsTrue (test x.spec)
-passes_at test [] n x all l e = absurd (cc)
-passes_at test (y ∷ xs) zero x all l e = absurd (omega (arith, l))
-passes_at test (y ∷ xs) (suc n) x all l e = at xs n all e
-  where
-    at : (xs : List Node) (n : ℕ) → AllByRecursion (λ x. IsTrue (test x.spec)) xs → slice_get xs n ≡ Some x → IsTrue (test x.spec)
-    at [] n all e = absurd (cc)
-    at (z ∷ xs) zero all e = let same : z ≡ x = cc in subst (λ (z : Node). IsTrue (test z.spec)) same all.0
-    at (z ∷ xs) (suc n) all e = at xs n all.1 e
-
-pub formed_at : (n : ℕ) (xs : List Node) (i : ℕ) (x : Node) → AllByRecursion (IsWired n) xs → slice_get xs i ≡ Some x → IsFormed x.spec
-formed_at n [] i x all e = absurd (cc)
-formed_at n (z ∷ xs) zero x all e = let same : z ≡ x = cc in (subst (IsWired n) same all.0).formed
-formed_at n (z ∷ xs) (suc i) x all e = formed_at n xs i x all.1 e
+pub node_at : (xs : List Node) (n : ℕ) (x : Node) → n < length xs → x ≡ get_or xs n x → slice_get xs n ≡ Some x
+node_at xs n x l e = slice_get-get_or xs n x l ∙ ap Some (sym e)
 
 -- ---- the sum of all sorts
 

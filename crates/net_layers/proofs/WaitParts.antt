@@ -27,11 +27,11 @@ all_of q (y ∷ xs) h x (inr a) = all_of q xs (and_both (q y) (list_all q xs) h)
 pub any_of : {A : Type 0} (q : A → Bool) (xs : List A) (x : A) → Among x xs → q x ≡ true → list_any q xs ≡ true
 any_of q [] x a h = absurd a
 any_of q (y ∷ xs) x (inl e) h = ap (λ b. b || list_any q xs) (subst (λ z. q z ≡ true) e h)
-any_of q (y ∷ xs) x (inr a) h = by (q y)
+any_of q (y ∷ xs) x (inr a) h = by (q y) (any_of q xs x a h)
   where
-    by : (b : Bool) → (b || list_any q xs) ≡ true
-    by true = refl
-    by false = any_of q xs x a h
+    by : (b : Bool) → list_any q xs ≡ true → (b || list_any q xs) ≡ true
+    by true e = refl
+    by false e = e
 
 filter_whole : {A : Type 0} (q : A → Bool) (xs : List A) → ((x : A) → Among x xs → q x ≡ true) → filter q xs ≡ xs
 filter_whole q [] h = refl
@@ -127,4 +127,6 @@ module _ (rows cols : ℕ) (cross : List (ℕ × ℕ)) (shape : IsShape rows col
       omega (arith, more, above p (inl refl))
 
   pub few_crossings : rows ≤ 2 → cols ≤ 2 → length cross ≤ 4
-  few_crossings few_rows few_columns = few_from cross (λ p a. (omega (arith, row_low p a), omega (arith, column_low p a))) shape.rising 0 (omega arith) (λ p a. omega arith)
+  few_crossings few_rows few_columns =
+      let few : 0 + length cross ≤ 4 = few_from cross (λ p a. (omega (arith, row_low p a), omega (arith, column_low p a))) shape.rising 0 (omega arith) (λ p a. omega arith) in
+      omega (arith, few)
