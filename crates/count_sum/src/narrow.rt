@@ -1,5 +1,5 @@
 //! Whether the decision-waits and the sequencers of a command are narrow.
-ghost use Rattle.std.specs.Prelude.{◌≡◌, length, map, IfOk};
+ghost use Rattle.std.specs.Prelude.{◌≡◌, length, IfOk};
 ghost use Rattle.std.specs.List.{list_all};
 ghost use Rattle.di_grammar.specs.Admitted.{Admitted};
 ghost use Rattle.place_graph.specs.Sums.{of_command};
@@ -22,7 +22,7 @@ fn is_narrow_part(part: &Part) -> bool
 }
 
 fn are_narrow(parts: &[Part]) -> bool
-    ensures { result ≡ list_all narrow.is_narrow (map counted_of parts.now) }
+    ensures { result ≡ list_all (λ p. narrow.is_narrow (counted_of p)) parts.now }
 {
     for part in parts {
         if !is_narrow_part(part) {

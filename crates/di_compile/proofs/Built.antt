@@ -101,7 +101,7 @@ module _ (c : Command) (p : Proc) (admitted : Admitted c.procs) (alone : c.procs
 -- as many components pass a test, and so all of them do
 none_fail : (test : NodeSpec → Bool) (xs : List Node) → AllByRecursion (λ x. IsTrue (test x.spec)) xs → sum_by (λ (x : Node). if test x.spec then 0 else 1) xs ≡ 0
 none_fail test [] h = refl
-none_fail test (x ∷ xs) h = omega (arith, ap (λ (b : Bool). if b then 0 else 1) h.0, none_fail test xs h.1, sum_by-cons (λ (x : Node). if test x.spec then 0 else 1) x xs)
+none_fail test (x ∷ xs) h = omega (arith, ap {B = ℕ} (λ (b : Bool). if b then 0 else 1) h.0, none_fail test xs h.1, sum_by-cons (λ (x : Node). if test x.spec then 0 else 1) x xs)
 
 all_pass : (test : NodeSpec → Bool) (xs : List Node) → sum_by (λ (x : Node). if test x.spec then 0 else 1) xs ≡ 0 → AllByRecursion (λ x. IsTrue (test x.spec)) xs
 all_pass test [] h = tt
@@ -109,7 +109,7 @@ all_pass test (x ∷ xs) h =
     let split = sum_by-cons (λ (x : Node). if test x.spec then 0 else 1) x xs in
     (by (test x.spec) (omega (arith, h, split)), all_pass test xs (omega (arith, h, split)))
   where
-    by : (b : Bool) → (if b then 0 else 1) ≡ 0 → b ≡ true
+    by : (b : Bool) → ◌≡◌ {A = ℕ} (if b then 0 else 1) 0 → b ≡ true
     by true e = refl
     by false e = absurd (omega (arith, e))
 

@@ -19,11 +19,11 @@ use Rattle.shape_parts.proofs.Links.{merged_in, merged_out, merged_same}
 
 any_found : {A : Type 0} (q : A → Bool) (xs : List A) → list_any q xs ≡ true → (x : A) × Among x xs × (q x ≡ true)
 any_found q [] h = absurd (true≢false (sym h))
-any_found q (y ∷ xs) h = by (q y) refl h
+any_found {A = A} q (y ∷ xs) h = by (q y) refl h (any_found q xs)
   where
-    by : (b : Bool) → q y ≡ b → (b || list_any q xs) ≡ true → (x : _) × Among x (y ∷ xs) × (q x ≡ true)
-    by true e z = (y, inl refl, e)
-    by false e z = let (x, a, t) = any_found q xs z in (x, inr a, t)
+    by : (b : Bool) → q y ≡ b → (b || list_any q xs) ≡ true → (list_any q xs ≡ true → (x : A) × Among x xs × (q x ≡ true)) → (x : A) × Among x (y ∷ xs) × (q x ≡ true)
+    by true e z rest = (y, inl refl, e)
+    by false e z rest = let (x, a, t) = rest z in (x, inr a, t)
 
 -- where all give the same number, some give it exactly where it is this one
 any_same : {A : Type 0} (f : A → ℕ) (n j : ℕ) (xs : List A) → 0 < length xs → ((x : A) → Among x xs → f x ≡ n) → list_any (λ x. nat_eq (f x) j) xs ≡ nat_eq n j
@@ -91,29 +91,22 @@ lesser_is P a b c x y = by (nat_lt b a)
     by true = y
     by false = x
 
--- a set of lines that has both lines of each crossing, or none, has the label of a line where it has the line
-closed_label : (rows : ℕ) (set : ℕ → Bool) (cross : List (ℕ × ℕ)) → ((p : ℕ × ℕ) → Among p cross → set p.0 ≡ set (rows + p.1)) → (v : ℕ) → set (label rows cross v) ≡ set v
-closed_label rows set [] h v = refl
-closed_label rows set (p ∷ ps) h v = elim (cases_eq (f v) (f p.0)) [
-  | inl e ↦ joined (inl e) (sym (before v) ∙ ap set e ∙ before p.0)
-  | inr d ↦ elim (cases_eq (f v) (f (rows + p.1))) [
-    | inl e ↦ joined (inr e) (sym (before v) ∙ ap set e ∙ before (rows + p.1) ∙ sym here)
-    | inr x ↦ ap set (merged_out f p.0 (rows + p.1) v d x) ∙ before v
+closed_merge : (f : ℕ → ℕ) (set : ℕ → Bool) (a b : ℕ) → ((w : ℕ) → set (f w) ≡ set w) → set a ≡ set b → (v : ℕ) → set (merged f a b v) ≡ set v
+closed_merge f set a b before here v = elim (cases_eq (f v) (f a)) [
+  | inl e ↦ joined (inl e) (sym (before v) ∙ ap set e ∙ before a)
+  | inr d ↦ elim (cases_eq (f v) (f b)) [
+    | inl e ↦ joined (inr e) (sym (before v) ∙ ap set e ∙ before b ∙ sym here)
+    | inr x ↦ ap set (merged_out f a b v d x) ∙ before v
   ]
 ]
   where
-    f : ℕ → ℕ
-    f w = label rows ps w
+    joined : (f v ≡ f a) ⊎ (f v ≡ f b) → set v ≡ set a → set (merged f a b v) ≡ set v
+    joined e same = ap set (merged_in f a b v e) ∙ lesser_is set (f a) (f b) (set v) (before a ∙ sym same) (before b ∙ sym here ∙ sym same)
 
-    before : (w : ℕ) → set (label rows ps w) ≡ set w
-    before w = closed_label rows set ps (λ q a. h q (inr a)) w
-
-    here : set p.0 ≡ set (rows + p.1)
-    here = h p (inl refl)
-
-    joined : (label rows ps v ≡ label rows ps p.0) ⊎ (label rows ps v ≡ label rows ps (rows + p.1)) → set v ≡ set p.0 → set (merged (label rows ps) p.0 (rows + p.1) v) ≡ set v
-    joined e same = ap set (merged_in (label rows ps) p.0 (rows + p.1) v e)
-        ∙ lesser_is set (label rows ps p.0) (label rows ps (rows + p.1)) (set v) (before p.0 ∙ sym same) (before (rows + p.1) ∙ sym here ∙ sym same)
+-- a set of lines that has both lines of each crossing, or none, has the label of a line where it has the line
+closed_label : (rows : ℕ) (set : ℕ → Bool) (cross : List (ℕ × ℕ)) → ((p : ℕ × ℕ) → Among p cross → set p.0 ≡ set (rows + p.1)) → (v : ℕ) → set (label rows cross v) ≡ set v
+closed_label rows set [] h v = refl
+closed_label rows set (p ∷ ps) h v = closed_merge (label rows ps) set p.0 (rows + p.1) (λ w. closed_label rows set ps (λ q a. h q (inr a)) w) (h p (inl refl)) v
 
 -- ---- one part
 
@@ -136,7 +129,7 @@ module _ (rows cols : ℕ) (cross : List (ℕ × ℕ)) (within : IsTrue (list_al
   row_low : (p : ℕ × ℕ) → Among p cross → p.0 < rows
   row_low p a = elim (cases_lt p.0 rows) [
     | inl less ↦ less
-    | inr past ↦ absurd (true≢false (sym (and_both (nat_lt p.0 rows) (nat_lt p.1 cols) (all_of (is_within rows cols) cross within p a)).0 ∙ le-ltb rows p.0 past))
+    | inr past ↦ absurd (true≢false (sym (and_both (nat_lt p.0 rows) (nat_lt p.1 cols) (all_of (is_within rows cols) cross within p a)).0 ∙ le-ltb p.0 rows past))
   ]
 
   -- the lines of the part that have the label n by its own rows and columns
@@ -151,7 +144,7 @@ module _ (rows cols : ℕ) (cross : List (ℕ × ℕ)) (within : IsTrue (list_al
 
   set_column : (n v : ℕ) → set n (rows + v) ≡ (has_column part v && nat_eq (own (own_rows + column_rank v)) n)
   set_column n v =
-      ap (λ b. if b then (has_row part (rows + v) && nat_eq (own (row_rank (rows + v))) n) else (has_column part (rows + v - rows) && nat_eq (own (own_rows + column_rank (rows + v - rows))) n)) (le-ltb rows (rows + v) (omega arith))
+      ap (λ b. if b then (has_row part (rows + v) && nat_eq (own (row_rank (rows + v))) n) else (has_column part (rows + v - rows) && nat_eq (own (own_rows + column_rank (rows + v - rows))) n)) (le-ltb (rows + v) rows (omega arith))
       ∙ ap (λ u. has_column part u && nat_eq (own (own_rows + column_rank u)) n) (let e : rows + v - rows ≡ v = omega arith in e)
 
   among_local : (p : ℕ × ℕ) → Among p part → Among (local_crossing part p) (local_part part)

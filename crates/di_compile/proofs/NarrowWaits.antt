@@ -1,6 +1,6 @@
 -- Where no decision-wait and no sequencer that is counted is too wide, each component of the network in the basis wide is split
 -- into two-way ones.
-use Rattle.std.proofs.Common.{◌≡◌, ◌≢◌, inl, inr, ℕ, zero, suc, ◌+◌, ◌-◌, ◌<◌, ◌≤◌, Bool, true, false, true≢false, not, filter, nat_eq, nat_lt, IsTrue, List, [], ◌∷◌, ◌++◌, length, map, refl, sym, ap, ◌∙◌, subst, arith, if◌then◌else◌, Option, None, Some}
+use Rattle.std.proofs.Common.{◌≡◌, ◌≢◌, inl, inr, ℕ, zero, suc, ◌+◌, ◌-◌, ◌<◌, ◌≤◌, Bool, true, false, true≢false, not, filter, nat_eq, nat_lt, ne_eqb, IsTrue, List, [], ◌∷◌, ◌++◌, length, map, refl, sym, ap, ◌∙◌, subst, arith, if◌then◌else◌, Option, None, Some}
 use Rattle.std.specs.Prelude.{◌&&◌, drop}
 use Rattle.std.specs.List.{AllByRecursion, list_all, list_any, range_with_len, sum_by}
 use Rattle.std.proofs.lemmas.Bool.Decides.{nat_tests}
@@ -154,7 +154,7 @@ module _ (t : Sort) where
   none_unfit [] h = refl
   none_unfit (x ∷ xs) h =
       let (first, rest) = and_both (is_narrow x) (list_all is_narrow xs) h in
-      omega (arith, ap (λ b. if b then 0 else 1) first, none_unfit xs rest)
+      omega (arith, ap {B = ℕ} (λ (b : Bool). if b then 0 else 1) first, none_unfit xs rest)
 
   pub none_too_wide : (c : Command) → Admitted c.procs → list_all is_narrow (of_command c.procs (length c.names)) ≡ true → command_sum too_wide c.procs (length c.names) t ≡ 0
   none_too_wide c admitted narrow = omega (
@@ -165,10 +165,10 @@ module _ (t : Sort) where
 
 -- ---- each component
 
-small : (a b : ℕ) → (if nat_lt a b then 0 else 1) ≡ 0 → nat_lt a b ≡ true
+small : (a b : ℕ) → ◌≡◌ {A = ℕ} (if nat_lt a b then 0 else 1) 0 → nat_lt a b ≡ true
 small a b h = by (nat_lt a b) h
   where
-    by : (c : Bool) → (if c then 0 else 1) ≡ 0 → c ≡ true
+    by : (c : Bool) → ◌≡◌ {A = ℕ} (if c then 0 else 1) 0 → c ≡ true
     by true e = refl
     by false e = absurd (omega (arith, e))
 
@@ -176,7 +176,7 @@ small a b h = by (nat_lt a b) h
 several : (rows cols : ℕ) (cross : List (ℕ × ℕ)) → wide_sum (Wait rows cols cross) Waits ≡ 1 → not (nat_eq (length cross) 1) ≡ true
 several rows cols [] h = refl
 several rows cols (p ∷ []) h = absurd (omega (arith, h))
-several rows cols (p ∷ q ∷ ps) h = refl
+several rows cols (p ∷ q ∷ ps) h = ap not (ne_eqb (length (p ∷ q ∷ ps)) 1 (λ e. omega (arith, e)))
 
 wait_splits : (s : Shape) (t : Sort) → too_wide (Wait s.rows s.cols s.cross) t ≡ 0 → wide_sum (Wait s.rows s.cols s.cross) Waits ≡ 1 → is_two_way (kind.Dw s) ≡ true
 wait_splits s t none alone = by (nat_lt (length s.cross) 2) refl (nat_eq (length (part_names s.rows s.cross)) 1) refl (nat_lt s.rows 3) refl (nat_lt s.cols 3) refl none
@@ -197,7 +197,7 @@ wait_splits s t none alone = by (nat_lt (length s.cross) 2) refl (nat_eq (length
     some (p ∷ ps) h = omega arith
 
     by : (a : Bool) → nat_lt (length s.cross) 2 ≡ a → (b : Bool) → nat_eq (length (part_names s.rows s.cross)) 1 ≡ b → (c : Bool) → nat_lt s.rows 3 ≡ c → (d : Bool) → nat_lt s.cols 3 ≡ d
-        → (if a then 0 else (if b && (c && d) then 0 else 1)) ≡ 0 → is_two_way (kind.Dw s) ≡ true
+        → ◌≡◌ {A = ℕ} (if a then 0 else (if b && (c && d) then 0 else 1)) 0 → is_two_way (kind.Dw s) ≡ true
     by true e b f c g d h z = absurd (none_less (length s.cross) e more (some s.cross (s.whole.each_row 0 s.whole.some_row)))
     by false e true f true g true h z = both_and (nat_eq (length (part_names s.rows s.cross)) 1) (nat_lt s.rows 3 && (nat_lt s.cols 3 && not (nat_eq (length s.cross) 1))) f
         (both_and (nat_lt s.rows 3) (nat_lt s.cols 3 && not (nat_eq (length s.cross) 1)) g (both_and (nat_lt s.cols 3) (not (nat_eq (length s.cross) 1)) h more))

@@ -1,5 +1,5 @@
 -- The network in the basis wide is split into one of the basis two.
-use Rattle.std.proofs.Common.{◌≡◌, ℕ, ◌+◌, ◌<◌, ◌≤◌, ◌^◌, true, true≢false, IsTrue, List, [], ◌∷◌, length, refl, sym, ap, ◌∙◌, arith}
+use Rattle.std.proofs.Common.{◌≡◌, ℕ, ◌+◌, ◌<◌, ◌≤◌, ◌^◌, true, true≢false, IsTrue, List, [], ◌∷◌, length, Result, Ok, Err, IfOk, refl, sym, ap, ◌∙◌, arith}
 use Rattle.std.specs.Prelude.{drop}
 use Rattle.std.specs.List.{AllByRecursion, sum_by}
 use Rattle.std.proofs.lemmas.List.{length-map}
@@ -70,7 +70,7 @@ module _ (c : Command) (n : Circuit) (w : IsWideNet c n) where
     );
   }
 
-  pub two_whole : (d : Circuit) → IsSplitTo n d → PassIn is_two_way_part d → ((s : Sort) → how_many (λ (x : Node). is_component s x.spec) (drop 1 d.nodes) ≡ sum_of_parts (two_way_part s) n)
+  two_whole : (d : Circuit) → IsSplitTo n d → PassIn is_two_way_part d → ((s : Sort) → how_many (λ (x : Node). is_component s x.spec) (drop 1 d.nodes) ≡ sum_of_parts (two_way_part s) n)
       → d.wires < 2 ^ 30 → IsWholeNet Two c d
   two_whole d split two numbers few = record {
     right = split.right (Cmd c) w.right;
@@ -79,3 +79,7 @@ module _ (c : Command) (n : Circuit) (w : IsWideNet c n) where
     sums = λ s. numbers s ∙ two_sums s;
   }
 
+  pub two_result : {E : Type 0} (r : Result Circuit E) → IfOk r (IsSplitTo n) → IfOk r (PassIn is_two_way_part)
+      → ((s : Sort) → IfOk r (λ d. how_many (λ (x : Node). is_component s x.spec) (drop 1 d.nodes) ≡ sum_of_parts (two_way_part s) n)) → IfOk r (λ d. d.wires < 2 ^ 30) → IfOk r (IsWholeNet Two c)
+  two_result (Ok d) split two numbers few = two_whole d split two numbers few
+  two_result (Err e) split two numbers few = tt

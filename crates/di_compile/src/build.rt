@@ -52,11 +52,7 @@ fn is_of_form(alloc: Global, command: &Command, basis: Basis) -> Result<bool, Al
 }
 
 /// The components are counted before anything is built.
-fn compile_within(
-    alloc: Global,
-    command: &Command,
-    basis: Basis,
-) -> Result<Net, CompileRefusal>
+fn compile_within(alloc: Global, command: &Command, basis: Basis) -> Result<Net, CompileRefusal>
     requires admitted { Admitted command.now.procs }
     requires form { IsOfForm basis command.now.procs }
     ensures ok { IfOk result (λ net. IsBuilt basis command.now.procs × IsNetworkOf basis command.now net) }

@@ -190,11 +190,11 @@ module _ (sum : Counted → Sort → ℕ) (w : IsSum sum) (t : Sort) (s : NodeSp
           let (one_row, first) = lone_line (length rows) x i.each_row i.some_row in
           let (one_column, second) = lone_line (length columns) y i.each_column i.some_column in
           sym (
-            ap (λ n. sum (Wait n (length columns) ((x, y) ∷ [])) t) one_row
-            ∙ ap (λ n. sum (Wait 1 n ((x, y) ∷ [])) t) one_column
-            ∙ ap (λ n. sum (Wait 1 1 ((n, y) ∷ [])) t) first
-            ∙ ap (λ n. sum (Wait 1 1 ((0, n) ∷ [])) t) second
-            ∙ w.single t
+          ap (λ n. sum (Wait n (length columns) ((x, y) ∷ [])) t) one_row
+          ∙ ap (λ n. sum (Wait 1 n ((x, y) ∷ [])) t) one_column
+          ∙ ap (λ n. sum (Wait 1 1 ((n, y) ∷ [])) t) first
+          ∙ ap (λ n. sum (Wait 1 1 ((0, n) ∷ [])) t) second
+          ∙ w.single t
           )
       by (p ∷ q ∷ ps) e i = absurd (cc)
   part_part rows columns (c ∷ n ∷ cs) h = ap (λ q. node_sum sum t (Basic q)) (dw_is (length rows) (length columns) (local_of (c ∷ n ∷ cs)) h.shape)
