@@ -6,4 +6,12 @@ mod calls;
 #[cfg(test)]
 mod compiled;
 #[cfg(test)]
+mod hazards;
+#[cfg(test)]
 mod judged;
+#[cfg(test)]
+mod layered;
+#[cfg(test)]
+mod probes;
+#[cfg(test)]
+mod replayed;

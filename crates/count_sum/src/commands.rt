@@ -1,13 +1,11 @@
 //! The components of a command.
 ghost use Rattle.std.specs.Prelude.{◌≡◌, [], map, length, if◌then◌else◌, IfOk};
 ghost use Rattle.std.specs.List.{AllByRecursion};
-ghost use Rattle.basic_kinds.specs.Sums.{wide_sum};
 ghost use Rattle.di_grammar.specs.Admitted.{Admitted};
 ghost use Rattle.di_grammar.specs.Sums.{grants};
 ghost use Rattle.place_graph.specs.Graph.{graph_of};
 ghost use Rattle.place_graph.specs.Sums.{counted, processes, of_command};
 ghost use Rattle.count_sum.specs.Counts.{AreCounts};
-ghost use Rattle.count_sum.specs.declared.counts.Basis.TheVariants as basis;
 ghost use Rattle.count_sum.specs.Mirror.Parts.{counted_of};
 ghost use Rattle.count_sum.specs.Mirror.Graphs.{IsReadableProcess};
 
@@ -15,8 +13,9 @@ use crate::counts::{Basis, Counts};
 use crate::graphs::graph_parts;
 use crate::parts::Part;
 use crate::sums::{two_way_counts, wide_counts};
-use crate::weaves::{is_grant, weave_parts};
+use crate::weaves::weave_parts;
 use cmd_tree::{Command, Proc};
+use di_grammar::is_grant;
 use place_graph::graph;
 use std::alloc::{AllocError, Global};
 
@@ -25,7 +24,7 @@ fn process_parts(alloc: Global, process: &Proc, names: usize) -> Result<Vec<Part
     requires { IsReadableProcess process.now }
     ensures { IfOk result (λ it. map counted_of it.items ≡ (if grants process.now then [] else counted (graph_of process.now) names)) }
 {
-    if is_grant(alloc, process)? {
+    if is_grant(process) {
         return Ok(Vec::new(alloc));
     }
     let graph = graph(alloc, process)?;
@@ -44,7 +43,7 @@ fn processes(alloc: Global, procs: &[Proc], names: usize) -> Result<Vec<Part>, A
 }
 
 /// What is counted of a command.
-fn command_parts(alloc: Global, command: &Command) -> Result<Vec<Part>, AllocError>
+pub fn command_parts(alloc: Global, command: &Command) -> Result<Vec<Part>, AllocError>
     requires { Admitted command.now.procs }
     ensures { IfOk result (λ it. map counted_of it.items ≡ of_command command.now.procs (length command.now.names)) }
 {
@@ -66,12 +65,4 @@ pub fn count(alloc: Global, command: &Command, basis: Basis) -> Result<Counts, A
         Basis::Wide => Ok(wide_counts(parts.as_slice())),
         Basis::Two => two_way_counts(alloc, parts.as_slice()),
     }
-}
-
-/// The same in the basis wide.
-pub fn count_wide(alloc: Global, command: &Command) -> Result<Counts, AllocError>
-    requires { Admitted command.now.procs }
-    ensures { IfOk result (AreCounts command.now basis.Wide) }
-{
-    count(alloc, command, Basis::Wide)
 }

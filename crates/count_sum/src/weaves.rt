@@ -15,6 +15,7 @@ use crate::rings::{Ring, ring_for};
 use crate::tally::tally;
 use cmd_rename::{Table, list_symbol, proc_symbols};
 use cmd_tree::{Command, Proc, copy_command};
+use di_grammar::is_grant;
 use net_core::{NodeSpec, directions};
 use std::alloc::{AllocError, Global};
 
@@ -42,20 +43,10 @@ fn own(alloc: Global, process: &Proc, listed: &mut Table) -> Result<Vec<u32>, Al
 fn own_made(alloc: Global, process: &Proc, listed: &mut Table) -> Result<Vec<u32>, AllocError>
     ensures { IfOk result (λ it. it.items ≡ own_made process.now) }
 {
-    if is_grant(alloc, process)? {
+    if is_grant(process) {
         Ok(Vec::new(alloc))
     } else {
         own(alloc, process, listed)
-    }
-}
-
-/// Whether a process is a grant.
-pub fn is_grant(alloc: Global, process: &Proc) -> Result<bool, AllocError>
-    ensures { IfOk result (λ it. it ≡ sums.grants process.now) }
-{
-    match ring_for(alloc, process)? {
-        None => Ok(false),
-        Some(_) => Ok(true),
     }
 }
 

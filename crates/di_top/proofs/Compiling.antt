@@ -5,11 +5,13 @@ use Rattle.cmd_tree.specs.declared.command.Command.{Command}
 use Rattle.cmd_tree.specs.declared.tree.Proc.{Proc}
 use Rattle.net_core.specs.Wiring.{Circuit}
 use Rattle.cmd_tree.specs.declared.limits.TheConstants.{MAX_COMPONENTS}
-use Rattle.di_compile.specs.Compiling.{total, IsNetworkOf}
+use Rattle.di_compile.specs.Compiling.{total, IsOfForm, IsNetworkOf}
+use Rattle.count_sum.specs.declared.counts.Basis.{Basis}
 use Rattle.di_top.specs.declared.outcome.Outcome.{Outcome}
-use Rattle.di_top.specs.declared.outcome.Outcome.TheVariants.{Done, NoMemory, Limit}
+use Rattle.di_top.specs.declared.outcome.Outcome.TheVariants.{Done, Refused, NoMemory, Limit}
+use Rattle.di_top.specs.declared.outcome.Why.TheVariants.{NotThisForm}
 use Rattle.net_text.specs.NetText.{net_text}
-use Rattle.di_top.specs.Requests.{CompileWide, Check}
+use Rattle.di_top.specs.Requests.{Compile, Check}
 use Rattle.di_top.specs.Calls.{Reading, Loaded}
 use Rattle.di_top.specs.CommandFiles.{command_cap, StopsWith, FileStops, Bytes, FileHolds, FileGives, Stopped, Taken}
 use Rattle.di_top.specs.CompileForm.{Compiles}
@@ -18,19 +20,22 @@ use Rattle.di_top.specs.Outcomes.{Gives, Prints}
 use Rattle.di_top.specs.Plans.{IsStop}
 use Rattle.di_top.proofs.Stops.{stops_are_stops}
 
-pub compile_done : (r : Reading) (file : List ℕ) (command : Command) (net : Circuit) → FileHolds r file command.names command.procs
-    → Compiles command.procs × IsNetworkOf command net → Gives (Some (CompileWide file)) r Done × Prints (Some (CompileWide file)) r (net_text net)
-compile_done r file command net h (built, network) = (
+pub compile_done : (basis : Basis) (r : Reading) (file : List ℕ) (command : Command) (net : Circuit) → FileHolds r file command.names command.procs
+    → Compiles basis command.procs × IsNetworkOf basis command net → Gives (Some (Compile basis file)) r Done × Prints (Some (Compile basis file)) r (net_text net)
+compile_done basis r file command net h (built, network) = (
   inr (Taken command.names command.procs h (inl (built, refl))),
   record { command = command; held = h; compiles = built; netlist = record { net = net; network = network; is = refl } },
 )
 
--- an admitted command whose network would have too many components, or memory is missing
-pub not_built : (r : Reading) (file : List ℕ) (command : Command) → FileHolds r file command.names command.procs → (stop : Outcome)
-    → (stop ≡ NoMemory) ⊎ ((MAX_COMPONENTS < total command.procs) × (stop ≡ Limit 6 (total command.procs))) → IsStop stop × Gives (Some (CompileWide file)) r stop
-not_built r file command h stop (inl e) = let P : Outcome → Type 0 = IsStop in (subst P (sym e) tt, inl e)
-not_built r file command h stop (inr (many, e)) =
-    let P : Outcome → Type 0 = IsStop in (subst P (sym e) tt, inr (Taken command.names command.procs h (inr (many, e))))
+-- an admitted command of no form of which a network is built, or whose network would have too many components, or memory is missing
+pub not_built : (basis : Basis) (r : Reading) (file : List ℕ) (command : Command) → FileHolds r file command.names command.procs → (stop : Outcome)
+    → (stop ≡ NoMemory) ⊎ (((IsOfForm basis command.procs → ⊥) × (stop ≡ Refused NotThisForm))
+    ⊎ (IsOfForm basis command.procs × (MAX_COMPONENTS < total basis command.procs) × (stop ≡ Limit 6 (total basis command.procs)))) → IsStop stop × Gives (Some (Compile basis file)) r stop
+not_built basis r file command h stop (inl e) = let P : Outcome → Type 0 = IsStop in (subst P (sym e) tt, inl e)
+not_built basis r file command h stop (inr (inl (other, e))) =
+    let P : Outcome → Type 0 = IsStop in (subst P (sym e) tt, inr (Taken command.names command.procs h (inr (inl (other, e)))))
+not_built basis r file command h stop (inr (inr (form, many, e))) =
+    let P : Outcome → Type 0 = IsStop in (subst P (sym e) tt, inr (Taken command.names command.procs h (inr (inr (form, many, e)))))
 
 pub check_done : (r : Reading) (file : List ℕ) (command : Command) → FileHolds r file command.names command.procs
     → Gives (Some (Check file)) r Done × Prints (Some (Check file)) r (counts_text (counts_of command.names command.procs))

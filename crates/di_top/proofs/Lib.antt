@@ -2,6 +2,9 @@ pub mod Compiling
 pub mod Endings
 pub mod FormAnswers
 pub mod ListAnswers
+pub mod Keeping
 pub mod Loads
+pub mod Replays
+pub mod RunAnswers
 pub mod Sourcing
 pub mod Stops

@@ -7,8 +7,10 @@ pub mod CommandFiles
 pub mod CompileForm
 pub mod CheckForm
 pub mod RulesForm
+pub mod RunForm
 pub mod Outcomes
 pub mod Promised
 pub mod Ends
 pub mod Headline
 pub mod Sources
+pub mod Mirror

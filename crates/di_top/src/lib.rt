@@ -4,11 +4,15 @@
 mod check_form;
 mod command;
 mod compile_form;
+mod keep;
 mod laws;
 mod load;
+mod names;
 mod outcome;
 mod plan;
 mod rules_form;
+mod run_form;
+mod texts;
 mod say;
 mod top;
 mod words;

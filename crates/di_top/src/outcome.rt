@@ -4,6 +4,9 @@ ghost use Rattle.di_top.specs.Say.{status_of};
 use cmd_expand::ExpandRefusal;
 use cmd_text::Refusal;
 use di_grammar::Broken;
+use net_core::Net;
+use net_text::NetRefusal;
+use replay::{Answer, ScheduleRefusal};
 use std::alloc::AllocError;
 use trace_laws::TraceRefusal;
 
@@ -24,6 +27,10 @@ pub enum Outcome {
     NoMemory,
     /// The limit of this number is passed. `value` is what was found.
     Limit { limit: u8, value: u64 },
+    /// The event in this line of the schedule has a hazard.
+    Hazard { line: u32, what: Answer },
+    /// The event in this line of the schedule may not happen.
+    NotRun { line: u32, what: Answer },
 }
 
 /// Why an input is refused.
@@ -39,6 +46,10 @@ pub enum Why {
     Grammar(Broken),
     /// The file is no list of traces.
     Traces(TraceRefusal),
+    /// The file is no netlist.
+    Net(NetRefusal),
+    /// The file is no schedule.
+    Schedule(ScheduleRefusal),
 }
 
 impl Outcome {
@@ -54,6 +65,8 @@ impl Outcome {
             Outcome::WriteFault => 4,
             Outcome::NoMemory => 5,
             Outcome::Limit { .. } => 6,
+            Outcome::Hazard { .. } => 7,
+            Outcome::NotRun { .. } => 8,
         }
     }
 }
@@ -119,5 +132,62 @@ impl From<TraceRefusal> for Outcome {
             TraceRefusal::NoMemory => Outcome::NoMemory,
             _ => Outcome::Refused(Why::Traces(refusal)),
         }
+    }
+}
+
+impl From<NetRefusal> for Outcome {
+    ghost use Rattle.std.specs.Prelude.{◌≡◌};
+    ghost use Rattle.di_top.specs.RunForm.{told_of_net};
+
+    ghost from_gives = { λ refusal outcome. outcome ≡ told_of_net refusal };
+
+    fn from(refusal: NetRefusal) -> Outcome {
+        match refusal {
+            NetRefusal::NoMemory => Outcome::NoMemory,
+            _ => Outcome::Refused(Why::Net(refusal)),
+        }
+    }
+}
+
+impl From<ScheduleRefusal> for Outcome {
+    ghost use Rattle.std.specs.Prelude.{◌≡◌};
+    ghost use Rattle.di_top.specs.RunForm.{told_of_schedule};
+
+    ghost from_gives = { λ refusal outcome. outcome ≡ told_of_schedule refusal };
+
+    fn from(refusal: ScheduleRefusal) -> Outcome {
+        match refusal {
+            ScheduleRefusal::NoMemory => Outcome::NoMemory,
+            _ => Outcome::Refused(Why::Schedule(refusal)),
+        }
+    }
+}
+
+/// What ends a call before it writes, and the network that was read by then, if one was: it has the names with which the
+/// outcome is said.
+#[derive(Drop)]
+pub struct Stop {
+    pub outcome: Outcome,
+    pub net: Option<Net>,
+}
+
+impl From<Outcome> for Stop {
+    ghost use Rattle.std.specs.Prelude.{◌≡◌, None};
+
+    ghost from_gives = { λ outcome stop. stop ≡ record { outcome = outcome; net = None } };
+
+    fn from(outcome: Outcome) -> Stop {
+        Stop { outcome, net: None }
+    }
+}
+
+impl From<AllocError> for Stop {
+    ghost use Rattle.std.specs.Prelude.{◌≡◌, None};
+    ghost use Rattle.di_top.specs.declared.outcome.Outcome.TheVariants.{NoMemory};
+
+    ghost from_gives = { λ _ stop. stop ≡ record { outcome = NoMemory; net = None } };
+
+    fn from(_error: AllocError) -> Stop {
+        Stop::from(Outcome::NoMemory)
     }
 }

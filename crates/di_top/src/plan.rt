@@ -1,19 +1,22 @@
-ghost use Rattle.std.specs.Prelude.{◌≡◌, ◌≤◌, ℕ, List, IfOk, IfErr, OnOk, OnErr, Some};
+ghost use Rattle.std.specs.Prelude.{◌≡◌, ◌≤◌, ℕ, List, [], Ok, Err, None, IfOk, IfErr, OnOk, OnErr, Some};
 ghost use Rattle.di_io.specs.Faults.{Rose};
 ghost use Rattle.di_io.specs.Written.{Gains, GainsFront};
+ghost use Rattle.replay.specs.Probes.{views_of};
 ghost use Rattle.di_top.specs.Asked.{meant};
 ghost use Rattle.di_top.specs.Calls.{reading};
-ghost use Rattle.di_top.specs.Outcomes.{Gives, Prints};
-ghost use Rattle.di_top.specs.Plans.{text_of, IsStop};
+ghost use Rattle.di_top.specs.Ends.{Finishes, Halts};
+ghost use Rattle.di_top.specs.Plans.{text_of, names_in};
 
 use crate::check_form::{Counts, plan_check, put_counts};
 use crate::compile_form::plan_compile;
-use crate::outcome::Outcome;
+use crate::outcome::{Outcome, Stop};
 use crate::rules_form::{Verdict, plan_rules, put_verdict};
+use crate::run_form::{Ran, plan_run, put_ran};
 use crate::words::Task;
 use di_io::{PutFault, Shelf, Sink};
 use net_core::Net;
 use net_text::write_net;
+use replay::Probe;
 use std::alloc::Global;
 
 /// What is to be printed. It owns all memory that printing needs.
@@ -22,22 +25,47 @@ pub enum Plan {
     Compile(Net),
     Check(Counts),
     Rules(Verdict),
+    Run(Ran),
 }
 
-/// Does all that a task asks for but its printing. On a failure that is no want of memory, the
-/// outcome is the first of the task's order.
-pub fn decide<F: Shelf>(alloc: Global, task: Task, shelf: &mut F) -> Result<Plan, Outcome>
-    ensures ok { IfOk result (λ plan. Gives (Some (meant task.entry)) (reading F.content F.faults shelf.old shelf.new) Outcome.Done
-        × Prints (Some (meant task.entry)) (reading F.content F.faults shelf.old shelf.new) (text_of plan)) }
-    ensures stop { IfErr result (λ stop. IsStop stop
-        × Gives (Some (meant task.entry)) (reading F.content F.faults shelf.old shelf.new) stop) }
+/// Does all that a task asks for but its printing, and hands back the probes that watched it. On a failure that is no want
+/// of memory, the outcome is the first of the task's order.
+pub fn decide<P: Probe, F: Shelf>(
+    alloc: Global,
+    task: Task,
+    shelf: &mut F,
+    probes: Vec<P>,
+) -> Result<(Plan, Vec<P>), Stop>
+    ensures ok { IfOk result (λ done. Finishes (Some (meant (views_of P.rule P.numbers P.steady probes.items) task.entry))
+        (reading F.content F.faults shelf.old shelf.new) (text_of done.0) (views_of P.rule P.numbers P.steady done.1.items)) }
+    ensures stop { IfErr result (λ stop. Halts (Some (meant (views_of P.rule P.numbers P.steady probes.items) task.entry))
+        (reading F.content F.faults shelf.old shelf.new) stop.outcome (names_in stop.net)) }
     ensures kept { (other : List ℕ) → F.content shelf.new other ≡ F.content shelf.old other }
     ensures later { (other : List ℕ) → F.faults shelf.old other ≤ F.faults shelf.new other }
 {
     match task {
-        Task::CompileWide { file } => plan_compile(alloc, file, shelf),
-        Task::Check { file } => plan_check(alloc, file, shelf),
-        Task::Rules { file } => plan_rules(alloc, file, shelf),
+        Task::Compile { basis, file } => {
+            unwatched(alloc, plan_compile(alloc, basis, file, shelf))
+        }
+        Task::Check { file } => unwatched(alloc, plan_check(alloc, file, shelf)),
+        Task::Rules { file } => unwatched(alloc, plan_rules(alloc, file, shelf)),
+        Task::Run {
+            netlist, schedule, ..
+        } => {
+            let (ran, kept) = plan_run(alloc, netlist, schedule, shelf, probes)?;
+            Ok((Plan::Run(ran), kept))
+        }
+    }
+}
+
+/// The plan of a form that no probe watches.
+fn unwatched<P>(alloc: Global, plan: Result<Plan, Outcome>) -> Result<(Plan, Vec<P>), Stop>
+    ensures ok { IfOk result (λ done. (plan ≡ Ok done.0) × (done.1.items ≡ [])) }
+    ensures stop { IfErr result (λ stop. (plan ≡ Err stop.outcome) × (stop.net ≡ None)) }
+{
+    match plan {
+        Ok(plan) => Ok((plan, Vec::new(alloc))),
+        Err(outcome) => Err(Stop { outcome, net: None }),
     }
 }
 
@@ -52,5 +80,6 @@ pub fn put_plan<S: Sink>(plan: &Plan, sink: &mut S) -> Result<(), PutFault>
         Plan::Compile(net) => write_net(net, sink),
         Plan::Check(counts) => put_counts(*counts, sink),
         Plan::Rules(verdict) => put_verdict(verdict, sink),
+        Plan::Run(ran) => put_ran(ran, sink),
     }
 }

@@ -1,33 +1,130 @@
-ghost use Rattle.std.specs.Prelude.{◌≡◌, option_map};
-ghost use Rattle.di_top.specs.Requests.{asked};
-ghost use Rattle.di_top.specs.Asked.{meant};
+ghost use Rattle.std.specs.Prelude.{◌≡◌, List, option_map, string_bytes};
+ghost use Rattle.replay.specs.Probes.{View, views_of};
+ghost use Rattle.di_top.specs.Requests.{asked, basis_of, compile_in, rule_of, first_with, run_by};
+ghost use Rattle.di_top.specs.Asked.{meant, asked_by, wanted_by};
+
+use crate::keep::{COUNT_RULE, PEAK_RULE, keep};
+use di_compile::Basis;
+use replay::Probe;
 
 /// What the words after the program's name ask for. Files are named as the words name them.
+#[derive(Clone, Copy)]
 pub enum Task<'a> {
-    /// The netlist of the command in this file.
-    CompileWide { file: &'a str },
+    /// The netlist of the command in this file, in this basis.
+    Compile { basis: Basis, file: &'a str },
     /// Whether the command in this file is admitted.
     Check { file: &'a str },
     /// Whether the list of traces in this file keeps the rules of delay-insensitivity.
     Rules { file: &'a str },
+    /// Whether the schedule in the second file is a run of the netlist in the first, watched by the probe with the rule
+    /// that is wanted.
+    Run {
+        netlist: &'a str,
+        schedule: &'a str,
+        wanted: Option<u32>,
+    },
 }
 
-/// What the words ask for, or None where they are of no form.
-pub fn read_words(words: &[String]) -> Option<Task<'_>>
-    ensures { option_map meant result ≡ asked words.now }
+/// What the words ask for where these probes are handed in, or None where they are of no form, or want a probe that is not
+/// there. The probes that are left are the wanted one, or none: all others are dropped.
+pub fn read_words<'a, P: Probe>(words: &'a [String], probes: &mut Vec<P>) -> Option<Task<'a>>
+    ensures { option_map (meant (views_of P.rule P.numbers P.steady probes.new.items)) result
+        ≡ asked words.now (views_of P.rule P.numbers P.steady probes.old.items) }
+{
+    let Some(task) = read_task(words) else {
+        return None;
+    };
+    if keep(probes, task.wanted()) {
+        Some(task)
+    } else {
+        None
+    }
+}
+
+impl Task<'_> {
+    /// The rule of the probe that the task wants.
+    fn wanted(&self) -> Option<u32>
+        ensures { result ≡ wanted_by self.now }
+    {
+        match self {
+            Task::Run { wanted, .. } => *wanted,
+            Task::Compile { .. } | Task::Check { .. } | Task::Rules { .. } => None,
+        }
+    }
+}
+
+/// What the words ask for, whichever probes are handed in.
+fn read_task(words: &[String]) -> Option<Task<'_>>
+    ensures { (vs : List View) → asked_by result vs ≡ asked words.now vs }
 {
     match words {
-        [verb, basis, file] if verb.as_str() == "compile" && basis.as_str() == "wide" => {
-            Some(Task::CompileWide {
-                file: file.as_str(),
-            })
-        }
+        [verb, basis, file] if verb.as_str() == "compile" => compile_task(basis, file),
+        [verb, netlist, schedule] if verb.as_str() == "run" => Some(Task::Run {
+            netlist: netlist.as_str(),
+            schedule: schedule.as_str(),
+            wanted: None,
+        }),
         [verb, file] if verb.as_str() == "check" => Some(Task::Check {
             file: file.as_str(),
         }),
         [verb, file] if verb.as_str() == "rules" => Some(Task::Rules {
             file: file.as_str(),
         }),
+        [verb, netlist, schedule, probe] if verb.as_str() == "run" => {
+            watched_run(netlist, schedule, probe)
+        }
+        _ => None,
+    }
+}
+
+fn compile_task<'a>(basis: &String, file: &'a String) -> Option<Task<'a>>
+    ensures { (vs : List View) → asked_by result vs ≡ compile_in (basis_of (string_bytes basis.now)) (string_bytes file.now) }
+{
+    match basis_of(basis.as_str()) {
+        Some(basis) => Some(Task::Compile {
+            basis,
+            file: file.as_str(),
+        }),
+        None => None,
+    }
+}
+
+/// The basis of this name.
+fn basis_of(name: &str) -> Option<Basis>
+    ensures { result ≡ basis_of name.now }
+{
+    match name {
+        "wide" => Some(Basis::Wide),
+        "two" => Some(Basis::Two),
+        _ => None,
+    }
+}
+
+fn watched_run<'a>(
+    netlist: &'a String,
+    schedule: &'a String,
+    probe: &String,
+) -> Option<Task<'a>>
+    ensures { (vs : List View) → asked_by result vs
+        ≡ run_by (string_bytes netlist.now) (string_bytes schedule.now) (first_with (rule_of (string_bytes probe.now)) vs) }
+{
+    match rule_of(probe.as_str()) {
+        Some(rule) => Some(Task::Run {
+            netlist: netlist.as_str(),
+            schedule: schedule.as_str(),
+            wanted: Some(rule),
+        }),
+        None => None,
+    }
+}
+
+/// The rule of the probe of this name.
+fn rule_of(name: &str) -> Option<u32>
+    ensures { result ≡ rule_of name.now }
+{
+    match name {
+        "count" => Some(COUNT_RULE),
+        "peak" => Some(PEAK_RULE),
         _ => None,
     }
 }

@@ -1,10 +1,10 @@
 use Rattle.di_top.proofs.plan.decide.Goals as goal
 
-pub returns-in-CompileWide-clause-ok : goal.returns-in-CompileWide-clause-ok
-returns-in-CompileWide-clause-ok g c = rw c.in-CompileWide.is c.plan_compile.ensures.ok
+pub returns-in-Compile-clause-ok : goal.returns-in-Compile-clause-ok
+returns-in-Compile-clause-ok g c = rw c.in-Compile.is c.plan_compile.ensures.ok
 
-pub returns-in-CompileWide-clause-stop : goal.returns-in-CompileWide-clause-stop
-returns-in-CompileWide-clause-stop g c = rw c.in-CompileWide.is c.plan_compile.ensures.stop
+pub returns-in-Compile-clause-stop : goal.returns-in-Compile-clause-stop
+returns-in-Compile-clause-stop g c = rw c.in-Compile.is c.plan_compile.ensures.stop
 
 pub returns-in-Check-clause-ok : goal.returns-in-Check-clause-ok
 returns-in-Check-clause-ok g c = rw c.in-Check.is c.plan_check.ensures.ok

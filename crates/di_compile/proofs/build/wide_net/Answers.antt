@@ -1,11 +1,9 @@
 use Rattle.std.proofs.Common.{sym, subst, drop}
 use Rattle.net_core.specs.declared.spec.NodeSpec.TheVariants.{Cmd}
 use Rattle.net_core.specs.Specs.{is_kind}
-use Rattle.net_laws.specs.Implementing.{Implements}
 use Rattle.di_compile.specs.Mirror.InPlaces.{AreInPlaces}
-use Rattle.di_compile.proofs.Built.{network_of, if_then}
-use Rattle.di_compile.proofs.Placed.{sized, few_whole, whole_few, whole_sums, one_of, fitting, correct_each, clean_each, kinds_after}
-use Rattle.di_compile.proofs.build.compile_wide.Goals as goal
+use Rattle.di_compile.proofs.Placed.{sized, few_whole, whole_few, whole_numbers, whole_sums, one_of, fitting, correct_each, clean_each, kinds_after}
+use Rattle.di_compile.proofs.build.wide_net.Goals as goal
 
 pub splice_all-requires-clause-sized : goal.splice_all-requires-clause-sized
 splice_all-requires-clause-sized c =
@@ -29,13 +27,13 @@ returns c =
     let weave = c.in_ok-weave.weave in
     let placed = subst (AreInPlaces (drop 1 weave.nodes)) (sym c.as_slice.ensures.value) c.in_ok-parts.ensures in
     let whole = c.in_ok-whole.ensures in
-    let right = c.in_ok-weave.ensures in
-    let is : Implements c.in_ok-whole.whole (Cmd c.args.command.now) = record {
-      basic = whole.passing is_kind (kinds_after (drop 1 weave.nodes) ps placed);
-      clean = whole.clean right.clean (clean_each (drop 1 weave.nodes) ps placed);
-      correct = whole.correct (Cmd c.args.command.now) right.correct (correct_each (drop 1 weave.nodes) ps placed);
-    } in
-    if_then c.in_order.result
-    (network_of c.args.command.now c.in_ok-whole.whole is (whole_few c.args.command.now weave ps placed c.in_ok-whole.whole whole.ok right.few right.parts)
-    (λ s. whole_sums c.args.command.now weave ps placed c.in_ok-whole.whole s (whole.sums (one_of s)) (right.sums s)))
-    c.in_order.ensures
+    let right = c.in_ok-weave.ensures in record {
+      right = record {
+        basic = whole.passing is_kind (kinds_after (drop 1 weave.nodes) ps placed);
+        clean = whole.clean right.clean (clean_each (drop 1 weave.nodes) ps placed);
+        correct = whole.correct (Cmd c.args.command.now) right.correct (correct_each (drop 1 weave.nodes) ps placed);
+      };
+      few = whole_few c.args.command.now weave ps placed c.in_ok-whole.whole whole.ok right.few right.parts;
+      numbers = λ s. whole_numbers c.args.command.now weave ps placed c.in_ok-whole.whole s (whole.sums (one_of s)) (right.sums s);
+      sums = whole_sums c.args.command.now weave ps placed c.in_ok-whole.whole whole.sums c.requires right.net;
+    }

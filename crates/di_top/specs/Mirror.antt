@@ -1,0 +1,2 @@
+-- Mirrors of what the code works out before it answers.
+pub mod Replayed
