@@ -1,5 +1,6 @@
 -- From what was read of a file to what is answered and printed of it.
-use Rattle.std.proofs.Common.{◌≡◌, ◌<◌, ℕ, List, Some, refl, sym, subst, inl, inr, IfErr, IsErrAnd}
+use Rattle.std.proofs.Common.{◌≡◌, ◌<◌, ℕ, List, Some, refl, sym, subst, ap, ◌∙◌, inl, inr, IfErr, IsErrAnd}
+use Rattle.std.proofs.Math.Path.{fun_ext}
 use Rattle.std.specs.Prelude.{◌⊎◌, Ok, Err, Result}
 use Rattle.cmd_tree.specs.declared.command.Command.{Command}
 use Rattle.cmd_tree.specs.declared.tree.Proc.{Proc}
@@ -11,11 +12,15 @@ use Rattle.di_top.specs.declared.outcome.Outcome.{Outcome}
 use Rattle.di_top.specs.declared.outcome.Outcome.TheVariants.{Done, Refused, NoMemory, Limit}
 use Rattle.di_top.specs.declared.outcome.Why.TheVariants.{NotThisForm}
 use Rattle.net_text.specs.NetText.{net_text}
-use Rattle.di_top.specs.Requests.{Compile, Check}
+use Rattle.di_top.specs.Requests.{Compile, Check, Count}
 use Rattle.di_top.specs.Calls.{Reading, Loaded}
 use Rattle.di_top.specs.CommandFiles.{command_cap, StopsWith, FileStops, Bytes, FileHolds, FileGives, Stopped, Taken}
 use Rattle.di_top.specs.CompileForm.{Compiles}
+use Rattle.basic_kinds.specs.Sorts.{Sort}
+use Rattle.count_sum.specs.declared.counts.Counts.{Counts}
+use Rattle.count_sum.specs.Counts.{of_sort, all_sorts, AreCounts}
 use Rattle.di_top.specs.CheckForm.{counts_of, counts_text}
+use Rattle.di_top.specs.CountForm.{sums_of, sums_text}
 use Rattle.di_top.specs.Outcomes.{Gives, Prints}
 use Rattle.di_top.specs.Plans.{IsStop}
 use Rattle.di_top.proofs.Stops.{stops_are_stops}
@@ -40,6 +45,13 @@ not_built basis r file command h stop (inr (inr (form, many, e))) =
 pub check_done : (r : Reading) (file : List ℕ) (command : Command) → FileHolds r file command.names command.procs
     → Gives (Some (Check file)) r Done × Prints (Some (Check file)) r (counts_text (counts_of command.names command.procs))
 check_done r file command h = (inr (Taken command.names command.procs h refl), record { names = command.names; procs = command.procs; held = h; is = refl })
+
+pub count_done : (basis : Basis) (r : Reading) (file : List ℕ) (command : Command) (sums : Counts) → FileHolds r file command.names command.procs → AreCounts command basis sums → (total : ℕ) → total ≡ all_sorts (of_sort sums)
+    → Gives (Some (Count basis file)) r Done × Prints (Some (Count basis file)) r (sums_text (of_sort sums) total)
+count_done basis r file command sums h counts total whole =
+    let many = sums_of basis command.names command.procs in
+    let each : of_sort sums ≡ many = fun_ext counts.each in
+    (inr (Taken command.names command.procs h refl), record { names = command.names; procs = command.procs; held = h; is = ap (sums_text (of_sort sums)) whole ∙ ap (λ (f : Sort → ℕ). sums_text f (all_sorts f)) each })
 
 -- a file that gives no admitted command
 pub file_stops : (Used : List Proc → Outcome → Type 0) (r : Reading) (file : List ℕ) (stop : Outcome)

@@ -6,7 +6,7 @@ use Rattle.cmd_tree.specs.declared.limits.TheConstants.{MAX_FILE_BYTES}
 use Rattle.count_sum.specs.declared.counts.Basis.{Basis}
 use Rattle.di_top.specs.declared.outcome.Outcome.{Outcome}
 use Rattle.di_top.specs.declared.outcome.Outcome.TheVariants.{Done}
-use Rattle.di_top.specs.Requests.{Request, Compile, Check, Rules, Run, files_of}
+use Rattle.di_top.specs.Requests.{Request, Compile, Check, Count, Rules, Run, files_of}
 use Rattle.di_top.specs.Calls.{Reading, Unread, Quiet, Tells}
 use Rattle.di_top.specs.CommandFiles as held
 use Rattle.di_top.specs.CommandFiles.{command_cap, StopsWith, IsAdmittedText, IsSuited, FileHolds, FileGives, Fault, Bytes, Taken, FileAdmits}
@@ -51,6 +51,8 @@ gives_admitted (Some (Compile basis file)) r (inl e) t = absurd (cc)
 gives_admitted (Some (Compile basis file)) r (inr g) t = compile_only basis r file g t.0.0 t.0.1
 gives_admitted (Some (Check file)) r (inl e) t = absurd (cc)
 gives_admitted (Some (Check file)) r (inr g) t = check_only r file g t.0.0 t.0.1
+gives_admitted (Some (Count basis file)) r (inl e) t = absurd (cc)
+gives_admitted (Some (Count basis file)) r (inr g) t = check_only r file g t.0.0 t.0.1
 gives_admitted (Some (Rules file)) r (inl e) t = absurd (cc)
 gives_admitted (Some (Rules file)) r (inr g) t = rules_only r file g t.0.0 t.0.1
 gives_admitted (Some (Run netlist schedule kept)) r (inl e) t = absurd (cc)
@@ -61,6 +63,7 @@ prints_admitted None r text p t = absurd p
 prints_admitted (Some (Compile basis file)) r text p t =
     holds_admits (Compiles basis) r file p.command.names p.command.procs p.held p.compiles t.0.0 t.0.1
 prints_admitted (Some (Check file)) r text p t = holds_admits (λ procs. ⊤) r file p.names p.procs p.held tt t.0.0 t.0.1
+prints_admitted (Some (Count basis file)) r text p t = holds_admits (λ procs. ⊤) r file p.names p.procs p.held tt t.0.0 t.0.1
 prints_admitted (Some (Rules file)) r text p t = printed_admits r file p.bytes text p.loaded p.judged t.0.0 t.0.1
 prints_admitted (Some (Run netlist schedule kept)) r text p t = run_printed r netlist schedule kept text p.0 p.1 t.0 t.1.0
 
@@ -105,6 +108,7 @@ pub one_answer : (request : Option Request) (r : Reading) → Tells r (files_of 
 one_answer None r t q a b e h = e ∙ sym h
 one_answer (Some (Compile basis file)) r t q a b g h = file_answer (CompileUses basis) (compile_once basis) r file t.0 q.0 a b g h
 one_answer (Some (Check file)) r t q a b g h = file_answer CheckUses check_once r file t.0 q.0 a b g h
+one_answer (Some (Count basis file)) r t q a b g h = file_answer CheckUses check_once r file t.0 q.0 a b g h
 one_answer (Some (Rules file)) r t q a b g h = rules_answer r file t.0 q.0 a b g h
 one_answer (Some (Run netlist schedule kept)) r t q a b g h = run_answer r netlist schedule t.0 t.1.0 q.0 q.1.0 a b g h
 
@@ -121,6 +125,7 @@ pub admits_told : (request : Option Request) (r : Reading) → Admits request r 
 admits_told None r a = absurd a
 admits_told (Some (Compile basis file)) r a = ((a.content, a.told), tt)
 admits_told (Some (Check file)) r a = ((a.content, a.told), tt)
+admits_told (Some (Count basis file)) r a = ((a.content, a.told), tt)
 admits_told (Some (Rules file)) r a = ((a.content, a.told), tt)
 admits_told (Some (Run netlist schedule kept)) r a = ((a.bytes, a.told), ((a.more, a.more_told), tt))
 
@@ -129,5 +134,6 @@ admits_gives None r a = absurd a
 admits_gives (Some (Compile basis file)) r a =
     Taken a.suited.names a.suited.procs (admits_holds (Compiles basis) r file a) (inl (a.suited.suits, refl))
 admits_gives (Some (Check file)) r a = Taken a.suited.names a.suited.procs (admits_holds (λ procs. ⊤) r file a) refl
+admits_gives (Some (Count basis file)) r a = Taken a.suited.names a.suited.procs (admits_holds (λ procs. ⊤) r file a) refl
 admits_gives (Some (Rules file)) r a = Judged a.names a.dirs a.traces (admits_lists r file a) refl
 admits_gives (Some (Run netlist schedule kept)) r a = run_admitted r netlist schedule a

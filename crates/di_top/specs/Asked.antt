@@ -2,13 +2,14 @@
 use Rattle.std.specs.Prelude.{ℕ, Bool, true, List, [], ◌∷◌, Option, Some, None, is_some}
 use Rattle.replay.specs.Probes.{View}
 use Rattle.di_top.specs.declared.words.Task.{Task}
-use Rattle.di_top.specs.declared.words.Task.TheVariants.{Compile as TaskCompile, Check as TaskCheck, Rules as TaskRules, Run as TaskRun}
-use Rattle.di_top.specs.Requests.{Request, Compile, Check, Rules, Run, first_of, run_by}
+use Rattle.di_top.specs.declared.words.Task.TheVariants.{Compile as TaskCompile, Check as TaskCheck, Count as TaskCount, Rules as TaskRules, Run as TaskRun}
+use Rattle.di_top.specs.Requests.{Request, Compile, Check, Count, Rules, Run, first_of, run_by}
 
 -- what a task is, where these probes are kept
 abbrev pub meant : List View → Task → Request
 meant kept (TaskCompile basis file) = Compile basis file.now
 meant kept (TaskCheck file) = Check file.now
+meant kept (TaskCount basis file) = Count basis file.now
 meant kept (TaskRules file) = Rules file.now
 meant kept (TaskRun netlist schedule wanted) = Run netlist.now schedule.now kept
 
@@ -20,6 +21,7 @@ run_for netlist schedule (Some rule) vs = run_by netlist schedule (first_of rule
 abbrev pub task_for : Task → List View → Option Request
 task_for (TaskCompile basis file) vs = Some (Compile basis file.now)
 task_for (TaskCheck file) vs = Some (Check file.now)
+task_for (TaskCount basis file) vs = Some (Count basis file.now)
 task_for (TaskRules file) vs = Some (Rules file.now)
 task_for (TaskRun netlist schedule wanted) vs = run_for netlist.now schedule.now wanted vs
 
@@ -31,6 +33,7 @@ asked_by (Some task) vs = task_for task vs
 abbrev pub wanted_by : Task → Option ℕ
 wanted_by (TaskCompile basis file) = None
 wanted_by (TaskCheck file) = None
+wanted_by (TaskCount basis file) = None
 wanted_by (TaskRules file) = None
 wanted_by (TaskRun netlist schedule wanted) = wanted
 

@@ -6,6 +6,7 @@ pub mod Plans
 pub mod CommandFiles
 pub mod CompileForm
 pub mod CheckForm
+pub mod CountForm
 pub mod RulesForm
 pub mod RunForm
 pub mod Outcomes

@@ -5,12 +5,14 @@ use Rattle.text_lines.specs.Lines.{numbered_line}
 use Rattle.di_top.specs.declared.outcome.Outcome.{Outcome}
 use Rattle.di_top.specs.declared.outcome.Outcome.TheVariants.{Done, Refused, Usage, ReadFault, WriteFault, NoMemory, Limit, Hazard, NotRun}
 use Rattle.di_top.specs.declared.plan.Plan.{Plan}
-use Rattle.di_top.specs.declared.plan.Plan.TheVariants.{Compile, Check, Rules, Run}
+use Rattle.di_top.specs.declared.plan.Plan.TheVariants.{Compile, Check, Count as CountPlan, Rules, Run}
 use Rattle.di_top.specs.declared.run_form.Ran.{Ran}
 use Rattle.di_top.specs.declared.run_form.Figures.{Figures}
 use Rattle.di_top.specs.declared.run_form.Figures.TheVariants.{Count, Peak}
 use Rattle.net_text.specs.NetText.{net_text}
+use Rattle.count_sum.specs.Counts.{of_sort}
 use Rattle.di_top.specs.CheckForm.{counts_text}
+use Rattle.di_top.specs.CountForm.{sums_text}
 use Rattle.di_top.specs.RulesForm.{verdict_text}
 use Rattle.di_top.specs.RunForm.{names_of, seen_lines}
 
@@ -27,6 +29,7 @@ ran_text ran = seen_lines (names_of ran.net) ran.outs.items ran.events ran.seen.
 abbrev pub text_of : Plan → List ℕ
 text_of (Compile net) = net_text net
 text_of (Check counts) = counts_text counts
+text_of (CountPlan sums) = sums_text (of_sort sums.sorts) sums.total
 text_of (Rules verdict) = verdict_text verdict.names verdict.broken
 text_of (Run ran) = ran_text ran
 

@@ -12,6 +12,8 @@ pub data Request : Type 0 where
   Compile : (basis : Basis) (file : List ℕ) → Request
   -- whether the command in this file is admitted
   Check : (file : List ℕ) → Request
+  -- how many components a network of the command in this file has in the basis
+  Count : (basis : Basis) (file : List ℕ) → Request
   -- whether the list of traces in this file keeps the rules of delay-insensitivity
   Rules : (file : List ℕ) → Request
   -- whether the schedule in the second file is a run of the netlist in the first, watched by the kept probes: none, or one
@@ -24,6 +26,10 @@ basis_of word = if bytes_eq word (codes "wide") then Some Wide else if bytes_eq 
 abbrev pub compile_in : Option Basis → List ℕ → Option Request
 compile_in None file = None
 compile_in (Some basis) file = Some (Compile basis file)
+
+abbrev pub count_in : Option Basis → List ℕ → Option Request
+count_in None file = None
+count_in (Some basis) file = Some (Count basis file)
 
 -- the rule of the probe of this name
 abbrev pub rule_of : List ℕ → Option ℕ
@@ -48,6 +54,7 @@ run_by netlist schedule (Some v) = Some (Run netlist schedule (v ∷ []))
 abbrev pub request_of : List (List ℕ) → List View → Option Request
 request_of (verb ∷ first ∷ second ∷ []) vs =
     if bytes_eq verb (codes "compile") then compile_in (basis_of first) second
+    else if bytes_eq verb (codes "count") then count_in (basis_of first) second
     else if bytes_eq verb (codes "run") then Some (Run first second [])
     else None
 request_of (verb ∷ file ∷ []) vs =
@@ -66,5 +73,6 @@ abbrev pub files_of : Option Request → List (List ℕ)
 files_of None = []
 files_of (Some (Compile basis file)) = file ∷ []
 files_of (Some (Check file)) = file ∷ []
+files_of (Some (Count basis file)) = file ∷ []
 files_of (Some (Rules file)) = file ∷ []
 files_of (Some (Run netlist schedule kept)) = netlist ∷ schedule ∷ []

@@ -4,6 +4,7 @@
 mod check_form;
 mod command;
 mod compile_form;
+mod count_form;
 mod keep;
 mod laws;
 mod load;

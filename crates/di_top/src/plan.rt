@@ -9,6 +9,7 @@ ghost use Rattle.di_top.specs.Plans.{text_of, names_in};
 
 use crate::check_form::{Counts, plan_check, put_counts};
 use crate::compile_form::plan_compile;
+use crate::count_form::{Sums, plan_count, put_sums};
 use crate::outcome::{Outcome, Stop};
 use crate::rules_form::{Verdict, plan_rules, put_verdict};
 use crate::run_form::{Ran, plan_run, put_ran};
@@ -24,6 +25,7 @@ use std::alloc::Global;
 pub enum Plan {
     Compile(Net),
     Check(Counts),
+    Count(Sums),
     Rules(Verdict),
     Run(Ran),
 }
@@ -48,6 +50,9 @@ pub fn decide<P: Probe, F: Shelf>(
             unwatched(alloc, plan_compile(alloc, basis, file, shelf))
         }
         Task::Check { file } => unwatched(alloc, plan_check(alloc, file, shelf)),
+        Task::Count { basis, file } => {
+            unwatched(alloc, plan_count(alloc, basis, file, shelf))
+        }
         Task::Rules { file } => unwatched(alloc, plan_rules(alloc, file, shelf)),
         Task::Run {
             netlist, schedule, ..
@@ -79,6 +84,7 @@ pub fn put_plan<S: Sink>(plan: &Plan, sink: &mut S) -> Result<(), PutFault>
     match plan {
         Plan::Compile(net) => write_net(net, sink),
         Plan::Check(counts) => put_counts(*counts, sink),
+        Plan::Count(sums) => put_sums(sums, sink),
         Plan::Rules(verdict) => put_verdict(verdict, sink),
         Plan::Run(ran) => put_ran(ran, sink),
     }

@@ -15,7 +15,8 @@ use replay::Probe;
 use std::alloc::Global;
 
 /// Does what the words after the program's name ask for: `compile wide F` puts the netlist of the command in the file F on
-/// `out`, `check F` what it counts, `rules F` whether the list of traces in the file F keeps the rules of
+/// `out`, `check F` what it counts, `count wide F` and `count two F` how many components of each sort a network of it has,
+/// `rules F` whether the list of traces in the file F keeps the rules of
 /// delay-insensitivity, and `run N S` what is seen where the schedule S is replayed on the netlist N.
 ///
 /// `run N S count` and `run N S peak` also put the numbers of a probe: the first of those handed in with the rule 1, or 2.

@@ -1,6 +1,6 @@
 ghost use Rattle.std.specs.Prelude.{◌≡◌, List, option_map, string_bytes};
 ghost use Rattle.replay.specs.Probes.{View, views_of};
-ghost use Rattle.di_top.specs.Requests.{asked, basis_of, compile_in, rule_of, first_with, run_by};
+ghost use Rattle.di_top.specs.Requests.{asked, basis_of, compile_in, count_in, rule_of, first_with, run_by};
 ghost use Rattle.di_top.specs.Asked.{meant, asked_by, wanted_by};
 
 use crate::keep::{COUNT_RULE, PEAK_RULE, keep};
@@ -14,6 +14,8 @@ pub enum Task<'a> {
     Compile { basis: Basis, file: &'a str },
     /// Whether the command in this file is admitted.
     Check { file: &'a str },
+    /// How many components a network of the command in this file has, in this basis.
+    Count { basis: Basis, file: &'a str },
     /// Whether the list of traces in this file keeps the rules of delay-insensitivity.
     Rules { file: &'a str },
     /// Whether the schedule in the second file is a run of the netlist in the first, watched by the probe with the rule
@@ -48,7 +50,10 @@ impl Task<'_> {
     {
         match self {
             Task::Run { wanted, .. } => *wanted,
-            Task::Compile { .. } | Task::Check { .. } | Task::Rules { .. } => None,
+            Task::Compile { .. }
+            | Task::Check { .. }
+            | Task::Count { .. }
+            | Task::Rules { .. } => None,
         }
     }
 }
@@ -59,6 +64,7 @@ fn read_task(words: &[String]) -> Option<Task<'_>>
 {
     match words {
         [verb, basis, file] if verb.as_str() == "compile" => compile_task(basis, file),
+        [verb, basis, file] if verb.as_str() == "count" => count_task(basis, file),
         [verb, netlist, schedule] if verb.as_str() == "run" => Some(Task::Run {
             netlist: netlist.as_str(),
             schedule: schedule.as_str(),
@@ -82,6 +88,18 @@ fn compile_task<'a>(basis: &String, file: &'a String) -> Option<Task<'a>>
 {
     match basis_of(basis.as_str()) {
         Some(basis) => Some(Task::Compile {
+            basis,
+            file: file.as_str(),
+        }),
+        None => None,
+    }
+}
+
+fn count_task<'a>(basis: &String, file: &'a String) -> Option<Task<'a>>
+    ensures { (vs : List View) → asked_by result vs ≡ count_in (basis_of (string_bytes basis.now)) (string_bytes file.now) }
+{
+    match basis_of(basis.as_str()) {
+        Some(basis) => Some(Task::Count {
             basis,
             file: file.as_str(),
         }),
