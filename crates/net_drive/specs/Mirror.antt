@@ -1,0 +1,2 @@
+-- Mirrors of the code's states.
+pub mod SumTrees
