@@ -1,5 +1,6 @@
 -- Trees of sums: a node has the number of set bits at its leaves.
 use Rattle.std.proofs.Common.{◌≡◌, ◌≢◌, ◌⊎◌, inl, inr, ℕ, zero, suc, ◌+◌, ◌-◌, ◌*◌, ◌/◌, ◌<◌, ◌≤◌, Bool, true, false, true≢false, not, if◌then◌else◌, List, [], ◌∷◌, length, get_or, refl, sym, ap, ◌∙◌, subst, arith, set, get_or-set_same, get_or-set_other, replicate}
+use mir.Val.{bool_byte}
 use Rattle.std.proofs.Math.Bool.{beq}
 use Rattle.std.proofs.Math.Nat.{mul-add, mul-one, one-mul, zero-mul, add-mul}
 use Rattle.std.proofs.lemmas.Bool.{false≢true, cases_eq}
@@ -393,6 +394,10 @@ differ true true h e = true≢false h
 differ true false h e = true≢false e
 differ false true h e = false≢true e
 differ false false h e = true≢false h
+
+pub bit_of : (on : Bool) → bool_byte on ≡ one_if on
+bit_of true = refl
+bit_of false = refl
 
 pub put_at : (height : ℕ) (sums : List ℕ) (bits : List Bool) (index : ℕ) (on : Bool) → IsTree height sums bits → index < length bits
     → beq (get_or bits index false) on ≡ false → (bit : ℕ) → bit ≡ one_if on
