@@ -9,8 +9,8 @@ loop-number-init c = λ a. ap (λ xs. rows_of xs a) c.new-users.ensures.items
 
 pub loop-number-preserved : goal.loop-number-preserved
 loop-number-preserved c = λ a.
-    users_next c.args.procs.now c.loop-number.number c.loop-number.number a c.index-process.result.now c.loop-number.users.items
-    c.note.new.users.items c.as_slice.result.now c.loop-number-test.true c.index-process.is refl
+    users_next c.args.procs.now c.loop-number.number c.loop-number.number a c.index-procs-number.result c.loop-number.users.items
+    c.note.new.users.items c.as_slice.result.now c.loop-number-test.true c.index-procs-number.is refl
     (c.as_slice.ensures.value ∙ c.in_ok-symbols.ensures) c.loop-number.invariant c.in_ok-note.ensures
 
 pub returns : goal.returns
