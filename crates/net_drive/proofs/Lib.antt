@@ -1,1 +1,9 @@
 pub mod SumTrees
+pub mod Listing
+pub mod Changing
+pub mod Numbers
+pub mod Refreshed
+pub mod Updated
+pub mod Once
+pub mod OnWay
+pub mod Planned

@@ -14,8 +14,8 @@ use Rattle.replay.specs.declared.event.Event.TheVariants.{Give, Pass, Fire}
 use Rattle.replay.specs.declared.event.Answer.{Answer}
 use Rattle.replay.specs.declared.event.Answer.TheVariants.{Done}
 use Rattle.replay.specs.Answers.{event_of, left_by, IsAnswer, IsEnabled}
-use Rattle.net_drive.specs.declared.drive.Stop.{Stop}
-use Rattle.net_drive.specs.declared.drive.Stop.TheVariants.{All, Quiet, Hazard}
+use Rattle.net_drive.specs.declared.driving.Stop.{Stop}
+use Rattle.net_drive.specs.declared.driving.Stop.TheVariants.{All, Quiet, Hazard}
 use Rattle.net_drive.specs.Bits.{trues}
 
 -- ---- all events that a network could ever have, in the written order

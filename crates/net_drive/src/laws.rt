@@ -11,7 +11,7 @@ ghost use Rattle.replay.specs.declared.event.Answer.{Answer};
 ghost use Rattle.replay.specs.declared.step.Step.{Step};
 ghost use Rattle.replay.specs.Answers.{IsAnswer, IsEnabled, event_of, left_by};
 ghost use Rattle.replay.specs.Mirror.Steps.{step_for};
-ghost use Rattle.net_drive.specs.declared.drive.Stop.{Stop};
+ghost use Rattle.net_drive.specs.declared.driving.Stop.{Stop};
 ghost use Rattle.net_drive.specs.Changes.{Concerns};
 ghost use Rattle.net_drive.specs.Drawn.{Drawn};
 

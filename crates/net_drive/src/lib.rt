@@ -4,11 +4,11 @@
 //! an index has a bit for each event that the network could ever have, and a tree of sums over the bits.
 #![tactic(auto)]
 
-mod drive;
+mod driving;
 mod index;
 mod laws;
 mod plan;
 mod refresh;
 
-pub use drive::{Driven, Stop, drive};
+pub use driving::{Driven, Stop, drive};
 pub use laws::{changes_law, one_drawn};

@@ -7,6 +7,7 @@ ghost use Rattle.net_core.specs.declared.spec.NodeSpec.TheVariants.{Cmd};
 ghost use Rattle.cmd_machine.specs.Mirror.Walkers.{row_at};
 ghost use Rattle.place_graph.specs.Points.{OneOf};
 ghost use Rattle.replay.specs.Answers.{IsPlayable, IsAnswer, event_of, left_by, state_of};
+ghost use Rattle.replay.specs.declared.event.Answer.{Answer};
 ghost use Rattle.net_drive.specs.Drawn.{widest};
 ghost use Rattle.net_drive.specs.Mirror.Plans.{IsPlan};
 ghost use Rattle.net_drive.specs.Mirror.Refreshing.{IsRight, AllRight, fresh, AreTested};

@@ -215,7 +215,7 @@ not_enabled c s e none = by (event_of c e) none
 
 -- ---- a judged event
 
-moved_by : (c : Circuit) (s : State) (ev : runs.Event) → runs.after (fabric c) s ev ≡ moved s (step_by c ev)
+pub moved_by : (c : Circuit) (s : State) (ev : runs.Event) → runs.after (fabric c) s ev ≡ moved s (step_by c ev)
 moved_by c s (runs.Fire n p) = refl
 moved_by c s (runs.Pass w) = refl
 

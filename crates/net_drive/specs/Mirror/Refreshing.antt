@@ -1,5 +1,5 @@
 -- Mirror of the bits of the index while some of them are tested again.
-use Rattle.std.specs.Prelude.{◌≡◌, ◌↔◌, ◌⊎◌, ℕ, Bool, false, nat_eq, if◌then◌else◌, suc, List, [], ◌∷◌, length, slice_get, slice_index_or, Some, IsTrue}
+use Rattle.std.specs.Prelude.{◌≡◌, ◌↔◌, ◌⊎◌, ◌≤◌, ℕ, Bool, false, nat_eq, if◌then◌else◌, suc, List, [], ◌∷◌, length, slice_get, slice_index_or, Some, IsTrue}
 use Rattle.net_core.specs.Runs.{State}
 use Rattle.net_core.specs.Wiring.{Circuit}
 use Rattle.replay.specs.declared.event.Event.{Event}

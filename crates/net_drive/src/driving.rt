@@ -5,6 +5,7 @@ ghost use Rattle.cmd_tree.specs.declared.command.Command.{Command};
 ghost use Rattle.net_core.specs.Runs.{start};
 ghost use Rattle.net_core.specs.Networks.{IsSpecified};
 ghost use Rattle.net_core.specs.declared.spec.NodeSpec.TheVariants.{Cmd};
+ghost use Rattle.replay.specs.declared.event.Answer.{Answer};
 ghost use Rattle.replay.specs.Answers.{IsPlayable, IsAnswer, state_of, state_after};
 ghost use Rattle.replay.specs.Probes.{views_of};
 ghost use Rattle.net_drive.specs.Bits.{trues};
