@@ -119,17 +119,16 @@ module _ (c : Circuit) (k : Command) (s : State) (p : Step) (specified : IsSpeci
       )
 
   may_trace : (t : List ℕ) → (fabric c).may 0 t ↔ Trace k.procs t
+  unfolding May
   may_trace t = by (slice_get c.nodes 0) specified
     where
       in_spec : (x : NodeSpec) → x ≡ Cmd k → May x t ↔ Trace k.procs t
       in_spec x e = (λ h. opened (subst (λ y. May y t) e h), λ h. subst (λ y. May y t) (sym e) (closed h))
         where
           opened : May (Cmd k) t → Trace k.procs t
-          unfolding May
           opened h = h
 
           closed : Trace k.procs t → May (Cmd k) t
-          unfolding May
           closed h = h
 
       by : (o : Option Node) → spec_of o ≡ Some (Cmd k) → may_of o t ↔ Trace k.procs t

@@ -205,11 +205,11 @@ many_fires wires n (x ∷ xs) h =
 
 outputs_many : (c : Circuit) → AllByRecursion (IsWired c.wires) c.nodes
     → length (gives_of c) + length (fires_from 1 (drop 1 c.nodes)) ≤ length (driven c)
+unfolding wiring
 outputs_many c h = let g = many_gives c in omega (arith, g, by c.nodes h)
   where
     by : (xs : List Node) → AllByRecursion (IsWired c.wires) xs
         → trues (directions_at 0 (slice_get xs 0)) + length (fires_from 1 (drop 1 xs)) ≤ length (wiring true xs)
-    unfolding wiring
     by [] h = omega arith
     by (x ∷ xs) h =
         let a = length-append (side false x) (flows true xs) in

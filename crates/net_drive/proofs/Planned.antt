@@ -15,7 +15,8 @@ use Rattle.cmd_machine.specs.Mirror.Walkers.{users_from}
 use Rattle.cmd_machine.proofs.Noting.{Row, rows_of, set_here, set_other}
 use Rattle.net_core.specs.declared.spec.NodeSpec.{NodeSpec}
 use Rattle.net_core.specs.declared.spec.NodeSpec.TheVariants.{Cmd}
-use Rattle.net_core.specs.Specs.{outs_of}
+use Rattle.cmd_tree.specs.Limits.{marks_of_all}
+use Rattle.net_core.specs.Specs.{outs_of, gives_symbol}
 use Rattle.net_core.specs.Wiring.{Node, Circuit}
 use Rattle.net_core.specs.Networks.{directions, gives, spec_of, IsSpecified}
 use Rattle.replay.specs.declared.event.Event.{Event}
@@ -108,12 +109,12 @@ module _ (nodes : List Node) (k : ℕ) (x : Node) (less : k < length nodes) (is 
 
 module _ (nodes : List Node) (k : ℕ) (past : length nodes ≤ k) where
   pub fires_end : (events all : List Event) → events ++ fires_from k (drop k nodes) ≡ all → events ≡ all
-  fires_end events all h = sym (append-nil events) ∙ ap (λ xs. events ++ fires_from k xs) (sym (drop_all nodes k past)) ∙ h
+  fires_end events all h = sym (append-nil events) ∙ ap (λ xs. events ++ fires_from k xs) (sym (drop_all k nodes past)) ∙ h
 
   pub starts_end : (starts all next : List ℕ) (m n : ℕ) → starts ++ starts_from m (drop k nodes) ≡ all → n ≡ m → next ≡ starts ++ n ∷ []
       → next ≡ all
   starts_end starts all next m n h e longer = longer ∙ ap (λ j. starts ++ j ∷ []) e
-      ∙ ap (λ xs. starts ++ starts_from m xs) (sym (drop_all nodes k past)) ∙ h
+      ∙ ap (λ xs. starts ++ starts_from m xs) (sym (drop_all k nodes past)) ∙ h
 
 -- ---- rows
 
@@ -145,3 +146,22 @@ row_pushed before room after s n was row same less is wrote pushed = (
 
     read : was.items ≡ rows_of before s
     read = sym (sym (same s) ∙ get_or-map (λ (r : Row). r.items) room s was [] less ∙ sym (ap (λ (r : Row). r.items) is))
+
+-- ---- symbols
+
+pub first_spec : (c : Circuit) (x : Node) (k : Command) → 0 < length c.nodes → x ≡ get_or c.nodes 0 x → IsSpecified c (Cmd k) → x.spec ≡ Cmd k
+first_spec c x k some is e =
+    let same : Some x.spec ≡ Some (Cmd k) = ap spec_of (ap Some is ∙ sym (slice_get-get_or c.nodes 0 x some)) ∙ e in
+    let it : x.spec ≡ Cmd k = cc in
+    it
+
+pub few_outs : (x : NodeSpec) (k : Command) → x ≡ Cmd k → length (outs_of x) < 2 ^ 32
+few_outs x k e =
+    let outs : length (outs_of x) ≡ length k.names = ap (λ (y : NodeSpec). length (outs_of y)) e
+    ∙ length-map (range_with_len 0 (length k.names)) (gives_symbol (marks_of_all k.procs)) ∙ length-range_with_len 0 (length k.names) in
+    omega (arith, outs, k.valid.few_symbols)
+
+pub read_bit : (xs : List Bool) (i : ℕ) (r d : Bool) → i < length xs → r ≡ get_or xs i r → get_or xs i d ≡ r
+read_bit [] i r d h e = absurd (omega (arith, h))
+read_bit (x ∷ xs) zero r d h e = sym e
+read_bit (x ∷ xs) (suc i) r d h e = read_bit xs i r d (omega (arith, h)) e
