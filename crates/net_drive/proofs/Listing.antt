@@ -32,6 +32,11 @@ picked_at (true ∷ bs) (e ∷ es) (suc before) (suc i) h n =
 picked_at (false ∷ bs) (e ∷ es) before (suc i) h n =
     picked_at bs es before i (omega (arith, h)) (record { on = n.on; place = omega (arith, n.place) })
 
+pub bit_within : (bs : List Bool) (i : ℕ) → get_or bs i false ≡ true → i < length bs
+bit_within [] i h = absurd (false≢true h)
+bit_within (b ∷ bs) zero h = omega arith
+bit_within (b ∷ bs) (suc i) h = omega (arith, bit_within bs i h)
+
 module _ (c : Circuit) (s : State) where
   -- right bits pick the events that may happen
   pub listing : (es : List Event) (bs : List Bool) → length bs ≡ length es → ((i : ℕ) → IsRight c s es bs i)

@@ -1,7 +1,7 @@
 -- The loop that draws.
-use Rattle.std.proofs.Common.{◌≡◌, ◌≢◌, ◌⊎◌, inl, inr, Option, Some, None, ℕ, zero, suc, ◌+◌, ◌-◌, ◌*◌, ◌<◌, ◌≤◌, List, [], ◌∷◌, ◌++◌, length, refl, sym, ap, ◌∙◌, subst, arith, append-nil, append_assoc}
+use Rattle.std.proofs.Common.{◌≡◌, ◌≢◌, ◌⊎◌, inl, inr, Option, Some, None, ℕ, zero, suc, ◌+◌, ◌-◌, ◌*◌, ◌%◌, ◌<◌, ◌≤◌, Bool, List, [], ◌∷◌, ◌++◌, length, map, refl, sym, ap, ◌∙◌, subst, arith, append-nil, append_assoc}
 use Rattle.std.proofs.lemmas.List.{length-append}
-use Rattle.std.proofs.Math.Nat.{add-mul, one-mul}
+use Rattle.std.proofs.Math.Nat.{add-mul, mul-add, one-mul}
 use Rattle.rand_pcg.specs.Lcg.{Lcg}
 use Rattle.rand_pcg.specs.Pcg.{pcg32}
 use Rattle.net_core.specs.Runs.{State, start, grow}
@@ -16,8 +16,12 @@ use Rattle.replay.specs.Answers.{Course, event_of, left_by, IsAnswer, state_of, 
 use Rattle.replay.proofs.Judging.{after_more}
 use Rattle.net_drive.specs.declared.driving.Stop.{Stop}
 use Rattle.net_drive.specs.declared.driving.Stop.TheVariants.{All}
-use Rattle.net_drive.specs.Drawn.{Draws, Drawn, ended, applied}
-use Rattle.net_drive.specs.Mirror.Driving.{IsOnWay}
+use Rattle.std.specs.Prelude.{slice_get}
+use Rattle.net_drive.specs.Bits.{trues}
+use Rattle.net_drive.specs.Drawn.{Draws, Drawn, ended, quiet, hazard, applied, possible, IsListing}
+use Rattle.net_drive.specs.Mirror.Refreshing.{AllRight}
+use Rattle.net_drive.specs.Mirror.Driving.{IsOnWay, picked}
+use Rattle.net_drive.proofs.Listing.{none_listed, draws}
 
 pub at_start : (c : Circuit) (first : Lcg) (steps : ℕ) (r : Course) (events : List Event) → r ≡ record { net = c; events = []; room = steps }
     → events ≡ [] → IsOnWay c first steps 0 r first events
@@ -89,3 +93,52 @@ left_seen c s (Some (runs.Pass w)) = one_seen s.trace (end_node (takes c) c w) (
 pub seen_low : (c : Circuit) (s : State) (es : List Event) → length ((state_after c s es).trace 0) ≤ length (s.trace 0) + length es
 seen_low c s [] = omega arith
 seen_low c s (e ∷ es) = omega (arith, seen_low c (left_by c s (event_of c e)) es, left_seen c s (event_of c e))
+
+-- ---- what is drawn in a step
+
+module _ (c : Circuit) (s : State) (planned : List Event) (bits : List Bool) (is : planned ≡ possible c) (right : AllRight c s planned bits) where
+  right_here : AllRight c s (possible c) bits
+  right_here = subst (λ (es : List Event). AllRight c s es bits) is right
+
+  pub none_to_draw : trues bits ≡ 0 → IsListing c s (possible c) []
+  none_to_draw = none_listed c s bits right_here
+
+pub word_draws : (c : Circuit) (s : State) (planned es : List Event) (bits : List Bool) (word : ℕ) (e : Event) → planned ≡ possible c → es ≡ planned
+    → AllRight c s planned bits → 0 < trues bits → slice_get (picked bits es) (word % trues bits) ≡ Some e → Draws c s word e
+word_draws c s planned es bits word e is same right some at =
+    draws c s bits word e (right_here c s planned bits is right) some
+    (subst (λ (xs : List Event). slice_get (picked bits xs) (word % trues bits) ≡ Some e) (same ∙ is) at)
+
+-- after the event and the update the bits are right
+pub right_next : (r q u : Course) (e : Event) (es : List Event) (old new : List Bool) → q ≡ record r { events = r.events ++ e ∷ []; room = r.room - 1 }
+    → u ≡ q → AllRight r.net (state_of r) es old → IsAnswer r.net (state_of r) e Done
+    → {E : Type 0} → ((s : State) → AllRight q.net s es old → IsAnswer q.net s e Done → state_of q ≡ left_by q.net s (event_of q.net e) → E
+        → AllRight q.net (state_of q) es new)
+    → E → AllRight u.net (state_of u) es new
+right_next r q u e es old new is same right done update early =
+    let net : q.net ≡ r.net = ap (λ (v : Course). v.net) is in
+    let state : state_of q ≡ left_by q.net (state_of r) (event_of q.net e) =
+    ap state_of is ∙ after_more r.net start r.events e ∙ ap (λ (d : Circuit). left_by d (state_of r) (event_of d e)) (sym net) in
+    subst (λ (v : Course). AllRight v.net (state_of v) es new) (sym same)
+    (update (state_of r) (subst (λ (d : Circuit). AllRight d (state_of r) es old) (sym net) right)
+    (subst (λ (d : Circuit). IsAnswer d (state_of r) e Done) (sym net) done) state early)
+
+-- ---- the whole run
+
+pub drawn_few : (c : Circuit) (n : ℕ) (g : Lcg) (s : State) (es : List Event) (stop : Stop) → Drawn c n g s es stop → length es ≤ n
+drawn_few c n g s es stop (ended _ _) = omega arith
+drawn_few c n g s es stop (quiet m _ _ l) = omega arith
+drawn_few c n g s es stop (hazard m _ _ e x d h ne) = omega arith
+drawn_few c n g s es stop (applied m _ _ e xs _ d h r) = omega (arith, drawn_few c m (pcg32 g).1 (left_by c s (event_of c e)) xs stop r)
+
+pub mapped_none : {A B : Type 0} (f : A → B) (xs : List A) → map f xs ≡ [] → xs ≡ []
+mapped_none f [] e = refl
+mapped_none f (x ∷ xs) e = absurd (cc)
+
+-- the bound that is asked for is wider
+pub asked_wide : (a x k w : ℕ) → a ≤ x + k * (1 + w) → a ≤ x + k * (1 + 2 * w)
+asked_wide a x k w h =
+    let twice : 1 + 2 * w ≡ 1 + w + w = omega arith in
+    let d : k * (1 + w + w) ≡ k * (1 + w) + k * w = mul-add k (1 + w) w in
+    let is : k * (1 + 2 * w) ≡ k * (1 + w) + k * w = ap (λ m. k * m) twice ∙ d in
+    omega (arith, h, is)

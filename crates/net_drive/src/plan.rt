@@ -1,5 +1,5 @@
 //! What is worked out of a network before it is driven.
-ghost use Rattle.std.specs.Prelude.{◌≡◌, ℕ, ◌+◌, ◌<◌, ◌^◌, List, ◌++◌, length, map, drop, slice_get, Some, IfOk, OnOk};
+ghost use Rattle.std.specs.Prelude.{◌≡◌, ℕ, ◌+◌, ◌*◌, ◌<◌, ◌≤◌, ◌^◌, List, ◌++◌, length, map, drop, slice_get, Some, IfOk, OnOk};
 ghost use Rattle.std.specs.List.{range_with_len};
 ghost use Rattle.cmd_tree.specs.declared.command.Command.{Command};
 ghost use Rattle.cmd_tree.specs.declared.tree.Proc.{Proc};
@@ -40,7 +40,9 @@ impl Plan {
     /// The plan of a network.
     pub fn new(alloc: Global, net: &Net) -> Result<Plan, AllocError>
         requires { IsPlayable net.now }
-        ensures { IfOk result (λ plan. (k : Command) → IsSpecified net.now (Cmd k) → IsPlan net.now k.procs plan) }
+        ensures plan { IfOk result (λ plan. (k : Command) → IsSpecified net.now (Cmd k) → IsPlan net.now k.procs plan) }
+        ensures many { IfOk result (λ plan. length plan.events.items ≤ 2 * net.now.wires) }
+        ensures few { IfOk result (λ plan. length plan.events.items < 2 ^ 33) }
     {
         let mut events = list_gives(alloc, net)?;
         let gives = events.len();

@@ -12,4 +12,5 @@ invariant-loop-number g l = record {
   asked : l.replay.asked ≤ l.fn.replay.asked + (l.number - l.from);
   right : (i : ℕ) → l.from ≤ i → i < l.number → IsRight l.fn.replay.course.net (state_of l.fn.replay.course) l.events l.index i;
   others : (i : ℕ) → (i < l.from) ⊎ (l.number ≤ i) → get_or l.index i false ≡ get_or l.fn.index i false;
+  end : (l.number ≤ l.to) ⊎ (l.number ≡ l.from);
 }
