@@ -15,7 +15,8 @@ const BUFFER: &[u8] = b"dinet 1\nspec pref*[a?;b!]\nport a? 0\nport b! 1\nWIRE 0
 const EARLY: &[u8] =
     b"dinet 1\nspec pref*[b!;a?;c!;a?]\nport b! 0\nport a? 1\nport c! 2\nSINK 1 >\nSOURCE > 2\nFORK 3 > 3 0\nend\n";
 
-const STILL: &[u8] = b"dinet 1\nspec pref*[b!;a?]\nport b! 0\nport a? 1\nSINK 1 >\nFORK 2 > 2 0\nend\n";
+const STILL: &[u8] =
+    b"dinet 1\nspec pref*[b!;a?]\nport b! 0\nport a? 1\nSINK 1 >\nFORK 2 > 2 0\nend\n";
 
 fn net_of(alloc: Global, text: &[u8]) -> Result<Net, Fail>
     ensures { IfOk result (λ net. IsPlayable net) }

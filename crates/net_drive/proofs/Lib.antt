@@ -7,3 +7,4 @@ pub mod Updated
 pub mod Once
 pub mod OnWay
 pub mod Planned
+pub mod Listed

@@ -66,8 +66,8 @@ module _ (c : Circuit) (first : Lcg) (steps taken : ℕ) (r : Course) (g : Lcg) 
             subst (λ (net : Circuit). Drawn c n (pcg32 g).1 (left_by net (state_of r) (event_of net e)) es stop) w.net
             (subst (λ u. Drawn c n (pcg32 g).1 u es stop) state (subst (λ k. Drawn c n k (state_of q) es stop) word d)) in
             let all : Drawn c (suc n) g (state_of r) (e ∷ es) stop = applied n g (state_of r) e es stop
-                (subst (λ (net : Circuit). Draws net (state_of r) (pcg32 g).0 e) w.net draw)
-                (subst (λ (net : Circuit). IsAnswer net (state_of r) e Done) w.net done) here in
+            (subst (λ (net : Circuit). Draws net (state_of r) (pcg32 g).0 e) w.net draw)
+            (subst (λ (net : Circuit). IsAnswer net (state_of r) e Done) w.net done) here in
             subst (λ xs. Drawn c steps first start xs stop) (sym (append_assoc events (e ∷ []) es) ∙ ap (λ xs. xs ++ es) (sym longer))
             (w.rest (suc n) (e ∷ es) stop next all);
       }
@@ -113,7 +113,7 @@ word_draws c s planned es bits word e is same right some at =
 pub right_next : (r q u : Course) (e : Event) (es : List Event) (old new : List Bool) → q ≡ record r { events = r.events ++ e ∷ []; room = r.room - 1 }
     → u ≡ q → AllRight r.net (state_of r) es old → IsAnswer r.net (state_of r) e Done
     → {E : Type 0} → ((s : State) → AllRight q.net s es old → IsAnswer q.net s e Done → state_of q ≡ left_by q.net s (event_of q.net e) → E
-        → AllRight q.net (state_of q) es new)
+    → AllRight q.net (state_of q) es new)
     → E → AllRight u.net (state_of u) es new
 right_next r q u e es old new is same right done update early =
     let net : q.net ≡ r.net = ap (λ (v : Course). v.net) is in

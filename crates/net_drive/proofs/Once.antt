@@ -34,5 +34,5 @@ once c n g s es fs a b (applied m _ _ e _ _ d h r) (hazard _ _ _ f y d2 k ne) =
 once c n g s es fs a b (applied m _ _ e xs _ d h r) (applied _ _ _ f ys _ d2 k q) =
     let is = one_draw c s (pcg32 g).0 e f d d2 in
     let rest = once c m (pcg32 g).1 (left_by c s (event_of c f)) xs ys a b
-        (subst (λ x. Drawn c m (pcg32 g).1 (left_by c s (event_of c x)) xs a) is r) q in
+    (subst (λ x. Drawn c m (pcg32 g).1 (left_by c s (event_of c x)) xs a) is r) q in
     ((λ i. is i ∷ rest.0 i), rest.1)

@@ -85,7 +85,7 @@ module _ (c : Circuit) (k : Command) (plan : Plan) (s t : State) (e : Event) (p 
   module _ (new : List Bool) (node : p.node ≢ 0) (long : length new ≡ length middle)
       (right : (i : ℕ) → get_or plan.fires.items (p.node - 1) 0 ≤ i → i < get_or plan.fires.items p.node 0 → IsRight c t es new i)
       (others : (i : ℕ) → (i < get_or plan.fires.items (p.node - 1) 0) ⊎ (get_or plan.fires.items p.node 0 ≤ i)
-          → get_or new i false ≡ get_or middle i false)
+      → get_or new i false ≡ get_or middle i false)
       (sized : length middle ≡ length old) where
     settled_fires : (i : ℕ) → Settled c t es middle new i
     settled_fires i = elim (cases_lt i (get_or plan.fires.items (p.node - 1) 0)) [
@@ -121,7 +121,7 @@ module _ (c : Circuit) (k : Command) (plan : Plan) (s t : State) (e : Event) (p 
       (tested : AreTested c t es middle new before stamps now) (early : (i : ℕ) → get_or before i 0 < now)
       (many : length before ≡ plan.gives)
       (stamped : (u i : ℕ) → OneOf (row_at (map (λ row. row.items) plan.sharing.users.items) p.port) u
-          → OneOf (row_at (map (λ row. row.items) plan.sharing.gives.items) u) i → i < length before → get_or stamps i 0 ≡ now)
+      → OneOf (row_at (map (λ row. row.items) plan.sharing.gives.items) u) i → i < length before → get_or stamps i 0 ≡ now)
       (sized : length middle ≡ length old) where
     give_stamped : (i b : ℕ) → slice_get es i ≡ Some (give_of b) → Share k.procs p.port b → get_or stamps i 0 ≡ now
     give_stamped i b at share =

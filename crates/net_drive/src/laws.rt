@@ -13,7 +13,13 @@ ghost use Rattle.replay.specs.Answers.{IsAnswer, IsEnabled, event_of, left_by};
 ghost use Rattle.replay.specs.Mirror.Steps.{step_for};
 ghost use Rattle.net_drive.specs.declared.driving.Stop.{Stop};
 ghost use Rattle.net_drive.specs.Changes.{Concerns};
-ghost use Rattle.net_drive.specs.Drawn.{Drawn};
+ghost use Rattle.place_graph.specs.Points.{OneOf};
+ghost use Rattle.net_drive.specs.Drawn.{Drawn, possible};
+
+/// An event that may happen in some state is one of those that are looked through.
+pub fn listed_law()
+    ensures { (c : Circuit) (s : State) (e : Event) → IsEnabled c s e → OneOf (possible c) e }
+{}
 
 /// From a state and a generator one schedule is drawn.
 pub fn one_drawn()

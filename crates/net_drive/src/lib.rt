@@ -11,4 +11,4 @@ mod plan;
 mod refresh;
 
 pub use driving::{Driven, Stop, drive};
-pub use laws::{changes_law, one_drawn};
+pub use laws::{changes_law, listed_law, one_drawn};

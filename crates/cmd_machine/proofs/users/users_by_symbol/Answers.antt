@@ -1,4 +1,4 @@
-use Rattle.std.proofs.Common.{◌≡◌, ◌∙◌, take, refl, sym, ap}
+use Rattle.std.proofs.Common.{◌∙◌, refl, ap}
 use Rattle.std.proofs.lemmas.List.{take_all}
 use Rattle.cmd_machine.specs.Mirror.Walkers.{users_from}
 use Rattle.cmd_machine.proofs.Noting.{rows_of, users_next}
