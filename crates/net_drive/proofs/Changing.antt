@@ -1,13 +1,13 @@
 -- Which events an applied event changes.
-use Rattle.std.proofs.Common.{◌≡◌, ◌≢◌, ◌⊎◌, inl, inr, ◌↔◌, ℕ, zero, suc, ◌<◌, Bool, true, false, true≢false, if◌then◌else◌, nat_eq, List, [], ◌∷◌, ◌++◌, length, Option, Some, None, IsTrue, refl, sym, ap, ◌∙◌, subst, arith, eq-eqb}
+use Rattle.std.proofs.Common.{◌≡◌, ◌≢◌, inl, inr, ◌↔◌, ℕ, suc, Bool, true, false, if◌then◌else◌, List, [], ◌∷◌, ◌++◌, Option, Some, None, refl, sym, ap, ◌∙◌, subst, eq-eqb}
 use Rattle.std.specs.Prelude.{slice_get, nat_lt, option_map, filter}
 use Rattle.std.specs.List.{AllByRecursion}
-use Rattle.std.proofs.lemmas.Bool.{false≢true, cases_eq}
+use Rattle.std.proofs.lemmas.Bool.{cases_eq}
 use Rattle.std.proofs.lemmas.List.{append-nil}
 use Rattle.std.proofs.lemmas.List.Elements.{filter-append}
 use Rattle.cmd_tree.specs.declared.tree.Proc.{Proc}
 use Rattle.cmd_tree.specs.declared.command.Command.{Command}
-use Rattle.cmd_tree.specs.Limits.{marks_of_proc, marks_of_all}
+use Rattle.cmd_tree.specs.Limits.{marks_of_proc}
 use Rattle.cmd_tree.specs.Meaning.{TraceOf, Trace, has_symbol, project}
 use Rattle.cmd_tree.proofs.Prefixes.{Trace-prefix}
 use Rattle.net_core.specs.declared.spec.NodeSpec.{NodeSpec}
@@ -22,7 +22,7 @@ use Rattle.replay.specs.declared.event.Event.{Event}
 use Rattle.replay.specs.declared.event.Event.TheVariants.{Give, Pass, Fire, Unknown}
 use Rattle.replay.specs.declared.event.Answer.TheVariants.{Done}
 use Rattle.replay.specs.declared.step.Step.{Step}
-use Rattle.replay.specs.Answers.{output_at, output_in, event_of, IsAnswer, IsAnswerTo, MayHappen, IsEnabled, left_by}
+use Rattle.replay.specs.Answers.{output_at, event_of, IsAnswer, IsAnswerTo, MayHappen, IsEnabled, left_by}
 use Rattle.replay.specs.Mirror.Steps.{step_by, step_for, moved, MayTake}
 use Rattle.replay.proofs.Judging.{mapped_from, done_may, moved_by}
 use Rattle.net_drive.specs.Changes.{Share, Concerns}

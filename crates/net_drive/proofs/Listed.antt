@@ -1,5 +1,5 @@
 -- Each event that may happen is one of those that are listed.
-use Rattle.std.proofs.Common.{◌≡◌, ◌≢◌, ◌⊎◌, inl, inr, ℕ, zero, suc, ◌+◌, ◌-◌, ◌<◌, ◌≤◌, Bool, true, false, ◌&&◌, if◌then◌else◌, nat_eq, List, [], ◌∷◌, ◌++◌, length, map, drop, get_or, Option, Some, None, refl, sym, ap, ◌∙◌, subst, arith, eqb-true, eq-eqb}
+use Rattle.std.proofs.Common.{◌≡◌, ◌≢◌, inl, inr, ℕ, zero, suc, ◌+◌, ◌-◌, ◌<◌, ◌≤◌, Bool, true, false, ◌&&◌, if◌then◌else◌, nat_eq, List, [], ◌∷◌, ◌++◌, length, map, drop, Option, Some, None, refl, sym, ap, ◌∙◌, subst, arith, eq-eqb}
 use Rattle.std.specs.Prelude.{slice_get, filter, nat_lt, nat_le, option_map}
 use Rattle.std.specs.List.{range_with_len}
 use Rattle.std.proofs.lemmas.Bool.{false≢true, cases_eq, cases_lt}
@@ -12,7 +12,7 @@ use Rattle.net_core.specs.declared.spec.NodeSpec.TheVariants.{Kind, Cmd}
 use Rattle.net_core.specs.Runs.{State, Enabled}
 use Rattle.net_core.specs.Runs as runs
 use Rattle.net_core.specs.Wiring.{Node, Circuit}
-use Rattle.net_core.specs.Networks.{directions, gives, fabric}
+use Rattle.net_core.specs.Networks.{directions, gives}
 use Rattle.replay.specs.declared.event.Event.{Event}
 use Rattle.replay.specs.declared.event.Event.TheVariants.{Give, Pass, Fire, Unknown}
 use Rattle.replay.specs.Answers.{output_of, output_in, output_at, event_of, MayHappen, IsEnabled}

@@ -1,12 +1,11 @@
 -- What the bits of the index draw is what the definition draws.
-use Rattle.std.proofs.Common.{◌≡◌, ◌≢◌, ◌↔◌, ℕ, zero, suc, ◌+◌, ◌<◌, ◌%◌, Bool, true, false, true≢false, if◌then◌else◌, List, [], ◌∷◌, ◌++◌, length, get_or, Option, Some, None, IsTrue, refl, sym, ap, ◌∙◌, subst, arith}
+use Rattle.std.proofs.Common.{◌≡◌, ℕ, zero, suc, ◌<◌, ◌%◌, Bool, true, false, List, [], ◌∷◌, length, get_or, Some, refl, sym, ap, ◌∙◌, subst, arith}
 use Rattle.std.specs.Prelude.{slice_get}
 use Rattle.std.proofs.lemmas.Bool.{false≢true}
 use Rattle.net_core.specs.Runs.{State}
 use Rattle.net_core.specs.Wiring.{Circuit}
 use Rattle.replay.specs.declared.event.Event.{Event}
-use Rattle.replay.specs.Answers.{IsEnabled}
-use Rattle.net_drive.specs.Bits.{one_if, trues, below, IsNth}
+use Rattle.net_drive.specs.Bits.{trues, IsNth}
 use Rattle.net_drive.specs.Drawn.{possible, IsListing, nothing, listed, left_out, Draws}
 use Rattle.net_drive.specs.Mirror.Refreshing.{IsRight, AllRight}
 use Rattle.net_drive.specs.Mirror.Driving.{picked}

@@ -1,15 +1,15 @@
 -- The numbers of events: where each sort stands among all that a network could ever have, and how many there are.
-use Rattle.std.proofs.Common.{◌≡◌, ◌≢◌, ◌⊎◌, inl, inr, ℕ, zero, suc, ◌+◌, ◌-◌, ◌*◌, ◌<◌, ◌≤◌, max, Bool, true, false, not, if◌then◌else◌, nat_eq, List, [], ◌∷◌, ◌++◌, length, map, drop, get_or, replicate, Option, Some, None, refl, sym, ap, ◌∙◌, subst, arith}
+use Rattle.std.proofs.Common.{◌≡◌, ◌⊎◌, inl, inr, ℕ, zero, suc, ◌+◌, ◌-◌, ◌*◌, ◌<◌, ◌≤◌, Bool, true, false, not, if◌then◌else◌, List, [], ◌∷◌, ◌++◌, length, map, drop, get_or, replicate, Some, refl, sym, ap, ◌∙◌, subst, arith}
 use Rattle.std.specs.Prelude.{slice_get, filter}
 use Rattle.std.specs.List.{range_with_len, AllByRecursion}
 use Rattle.std.proofs.Math.Nat.{mul-one, mul-zero, zero-mul}
 use Rattle.std.proofs.lemmas.List.{length-append, length-map}
-use Rattle.std.proofs.lemmas.List.FromFn.{length-range_with_len, length-map-range_with_len}
+use Rattle.std.proofs.lemmas.List.FromFn.{length-map-range_with_len}
 use Rattle.basic_kinds.specs.Kinds.{inputs_of, outputs_of}
 use Rattle.net_core.specs.declared.spec.NodeSpec.{NodeSpec}
 use Rattle.net_core.specs.declared.spec.NodeSpec.TheVariants.{Kind, Cmd}
 use Rattle.net_core.specs.Specs.{sides, outs_of}
-use Rattle.net_core.specs.Wiring.{Node, Circuit, IsWired, IsNetwork, IsClosed, picked, side, flows, wiring, driven}
+use Rattle.net_core.specs.Wiring.{Node, Circuit, IsWired, IsNetwork, picked, side, flows, wiring, driven}
 use Rattle.net_core.specs.Networks.{directions, directions_at, gives}
 use Rattle.net_core.proofs.Ends.{own_directions}
 use Rattle.replay.specs.declared.event.Event.{Event}

@@ -1,5 +1,5 @@
 -- One schedule is drawn.
-use Rattle.std.proofs.Common.{◌≡◌, ◌≢◌, ℕ, zero, suc, List, [], ◌∷◌, ◌++◌, refl, sym, ap, ◌∙◌, subst}
+use Rattle.std.proofs.Common.{◌≡◌, ℕ, List, ◌∷◌, refl, sym, ap, subst}
 use Rattle.rand_pcg.specs.Lcg.{Lcg}
 use Rattle.rand_pcg.specs.Pcg.{pcg32}
 use Rattle.net_core.specs.Runs.{State}
@@ -10,8 +10,8 @@ use Rattle.replay.specs.declared.event.Answer.TheVariants.{Done}
 use Rattle.replay.specs.Answers.{event_of, left_by, IsAnswer}
 use Rattle.replay.proofs.Answering.{one_answer_to}
 use Rattle.net_drive.specs.declared.driving.Stop.{Stop}
-use Rattle.net_drive.specs.declared.driving.Stop.TheVariants.{All, Quiet, Hazard}
-use Rattle.net_drive.specs.Drawn.{Draws, Drawn, ended, quiet, hazard, applied}
+use Rattle.net_drive.specs.declared.driving.Stop.TheVariants.{Hazard}
+use Rattle.net_drive.specs.Drawn.{Drawn, ended, quiet, hazard, applied}
 use Rattle.net_drive.proofs.Listing.{one_draw, no_draw}
 
 same_answer : (c : Circuit) (s : State) (e f : Event) (a b : Answer) → e ≡ f → IsAnswer c s e a → IsAnswer c s f b → a ≡ b

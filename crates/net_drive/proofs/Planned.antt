@@ -1,8 +1,8 @@
 -- How the plan of a network is worked out.
-use Rattle.std.proofs.Common.{◌≡◌, ◌≢◌, ◌⊎◌, inl, inr, ℕ, zero, suc, ◌+◌, ◌-◌, ◌<◌, ◌≤◌, ◌^◌, Bool, true, false, not, if◌then◌else◌, List, [], ◌∷◌, ◌++◌, length, map, drop, set, get_or, Option, Some, None, refl, sym, ap, ◌∙◌, subst, arith, append-nil, append_assoc}
-use Rattle.std.specs.Prelude.{slice_get, filter}
+use Rattle.std.proofs.Common.{◌≡◌, inl, inr, ℕ, zero, suc, ◌+◌, ◌<◌, ◌≤◌, ◌^◌, Bool, true, false, not, if◌then◌else◌, List, [], ◌∷◌, ◌++◌, length, map, drop, set, get_or, Some, refl, sym, ap, ◌∙◌, subst, arith, append-nil, append_assoc}
+use Rattle.std.specs.Prelude.{filter}
 use Rattle.std.specs.List.{range_with_len}
-use Rattle.std.proofs.lemmas.Bool.{cases_eq, cases_lt}
+use Rattle.std.proofs.lemmas.Bool.{cases_eq}
 use Rattle.std.proofs.lemmas.List.{length-append, length-map, map-append, drop_all, get_or-map}
 use Rattle.std.proofs.lemmas.List.Elements.{filter-append}
 use Rattle.std.proofs.lemmas.List.FromFn.{length-range_with_len, length-map-range_with_len}
@@ -10,8 +10,6 @@ use Rattle.std.proofs.Math.Seq.{drop-cons}
 use Rattle.std.proofs.lemmas.Option.{slice_get-get_or}
 use Rattle.place_graph.specs.Points.{OneOf}
 use Rattle.cmd_tree.specs.declared.command.Command.{Command}
-use Rattle.cmd_tree.specs.declared.tree.Proc.{Proc}
-use Rattle.cmd_machine.specs.Mirror.Walkers.{users_from}
 use Rattle.cmd_machine.proofs.Noting.{Row, rows_of, set_here, set_other}
 use Rattle.net_core.specs.declared.spec.NodeSpec.{NodeSpec}
 use Rattle.net_core.specs.declared.spec.NodeSpec.TheVariants.{Cmd}
@@ -20,9 +18,9 @@ use Rattle.net_core.specs.Specs.{outs_of, gives_symbol}
 use Rattle.net_core.specs.Wiring.{Node, Circuit}
 use Rattle.net_core.specs.Networks.{directions, gives, spec_of, IsSpecified}
 use Rattle.replay.specs.declared.event.Event.{Event}
-use Rattle.replay.specs.declared.event.Event.TheVariants.{Give, Pass, Fire, Unknown}
+use Rattle.replay.specs.declared.event.Event.TheVariants.{Fire}
 use Rattle.net_drive.specs.Drawn.{give_of, gives_of, outputs_in, fires_from}
-use Rattle.net_drive.specs.Mirror.Plans.{starts_from, HasGives}
+use Rattle.net_drive.specs.Mirror.Plans.{starts_from}
 
 -- ---- ranges
 

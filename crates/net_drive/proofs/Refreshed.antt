@@ -1,14 +1,13 @@
 -- Bits that are tested again are right, and the others are as they were.
-use Rattle.std.proofs.Common.{◌≡◌, ◌≢◌, ◌⊎◌, inl, inr, ◌↔◌, ℕ, zero, suc, ◌+◌, ◌-◌, ◌<◌, ◌≤◌, Bool, true, false, nat_eq, if◌then◌else◌, List, [], ◌∷◌, length, get_or, set, Option, Some, None, IsTrue, refl, sym, ap, ◌∙◌, subst, arith, get_or-set_same, get_or-set_other, eq-eqb, ne_eqb}
-use Rattle.std.specs.Prelude.{slice_get}
-use Rattle.std.proofs.lemmas.Bool.{cases_eq, cases_lt}
+use Rattle.std.proofs.Common.{◌≡◌, ◌≢◌, ◌⊎◌, inl, inr, ◌↔◌, ℕ, zero, suc, ◌+◌, ◌<◌, ◌≤◌, Bool, true, false, nat_eq, if◌then◌else◌, List, [], ◌∷◌, length, get_or, set, IsTrue, refl, sym, ap, ◌∙◌, subst, arith, get_or-set_same, get_or-set_other, eq-eqb, ne_eqb}
+use Rattle.std.proofs.lemmas.Bool.{cases_eq}
 use Rattle.std.proofs.lemmas.List.{length-set}
 use Rattle.place_graph.specs.Points.{OneOf}
 use Rattle.net_core.specs.Runs.{State}
 use Rattle.net_core.specs.Wiring.{Circuit}
 use Rattle.replay.specs.declared.event.Event.{Event}
 use Rattle.replay.specs.Answers.{Course, IsEnabled, state_of}
-use Rattle.net_drive.specs.Mirror.Refreshing.{IsRight, AllRight, fresh, AreTested}
+use Rattle.net_drive.specs.Mirror.Refreshing.{IsRight, fresh, AreTested}
 
 pub right_same : (c : Circuit) (s : State) (es : List Event) (old new : List Bool) (i : ℕ) → get_or new i false ≡ get_or old i false
     → IsRight c s es old i → IsRight c s es new i

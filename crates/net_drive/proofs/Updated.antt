@@ -1,13 +1,10 @@
 -- After an update each bit is right again.
-use Rattle.std.proofs.Common.{◌≡◌, ◌≢◌, ◌⊎◌, inl, inr, ◌↔◌, ℕ, zero, suc, ◌+◌, ◌-◌, ◌<◌, ◌≤◌, Bool, true, false, List, [], ◌∷◌, length, get_or, map, drop, Option, Some, None, IsTrue, refl, sym, ap, ◌∙◌, subst, arith}
+use Rattle.std.proofs.Common.{◌≡◌, ◌≢◌, ◌⊎◌, inl, inr, ◌↔◌, ℕ, ◌+◌, ◌-◌, ◌<◌, ◌≤◌, Bool, false, List, length, get_or, map, Some, IsTrue, sym, ap, ◌∙◌, subst, arith}
 use Rattle.std.specs.Prelude.{slice_get}
 use Rattle.std.proofs.lemmas.Bool.{cases_eq, cases_lt}
 use Rattle.place_graph.specs.Points.{OneOf}
-use Rattle.cmd_tree.specs.declared.tree.Proc.{Proc}
 use Rattle.cmd_tree.specs.declared.command.Command.{Command}
-use Rattle.cmd_tree.specs.Limits.{marks_of_proc}
-use Rattle.cmd_tree.specs.Meaning.{has_symbol}
-use Rattle.cmd_machine.specs.Mirror.Walkers.{row_at, users_from}
+use Rattle.cmd_machine.specs.Mirror.Walkers.{row_at}
 use Rattle.cmd_machine.proofs.Weaving.{user_zero}
 use Rattle.net_core.specs.declared.spec.NodeSpec.TheVariants.{Cmd}
 use Rattle.net_core.specs.Runs.{State}
@@ -21,11 +18,11 @@ use Rattle.replay.specs.Answers.{event_of, IsAnswer, IsEnabled, left_by}
 use Rattle.replay.specs.Mirror.Steps.{step_for}
 use Rattle.net_drive.specs.declared.plan.Plan.{Plan}
 use Rattle.net_drive.specs.Changes.{Share, Concerns}
-use Rattle.net_drive.specs.Drawn.{possible, gives_of, give_of}
-use Rattle.net_drive.specs.Mirror.Plans.{starts_from, HasGives, IsPlan}
+use Rattle.net_drive.specs.Drawn.{gives_of, give_of}
+use Rattle.net_drive.specs.Mirror.Plans.{IsPlan}
 use Rattle.net_drive.specs.Mirror.Refreshing.{IsRight, AllRight, AreTested}
 use Rattle.net_drive.proofs.Changing.{kept}
-use Rattle.net_drive.proofs.Numbers.{Stands, stands}
+use Rattle.net_drive.proofs.Numbers.{stands}
 use Rattle.net_drive.proofs.Refreshed.{right_same, Settled}
 
 module _ (c : Circuit) (k : Command) (plan : Plan) (s t : State) (e : Event) (p : Step) (is : IsPlan c k.procs plan)

@@ -1,5 +1,5 @@
 -- Which events may come to happen, or cease to, by an event that is applied.
-use Rattle.std.specs.Prelude.{◌≡◌, ◌≢◌, ℕ, IsTrue, List, Option, Some, None, slice_get}
+use Rattle.std.specs.Prelude.{◌≡◌, ◌≢◌, ℕ, IsTrue, List, Some, slice_get}
 use Rattle.cmd_tree.specs.declared.tree.Proc.{Proc}
 use Rattle.cmd_tree.specs.Limits.{marks_of_proc}
 use Rattle.cmd_tree.specs.Meaning.{has_symbol}

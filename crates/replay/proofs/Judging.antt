@@ -206,13 +206,6 @@ module _ (c : Circuit) (s : State) (e : Event) (p : Step) (network : IsNetwork c
       subst (λ o. IsTrue busy ↔ MayHappen c s o) (sym named)
       (may_pass c s ev busy (λ f. other (ap (λ (q : Step). q.fills) is ∙ f)) (fills ∙ ap (λ (q : Step). s.busy q.wire) is))
 
-pub not_enabled : (c : Circuit) (s : State) (e : Event) → step_for c e ≡ None → IsEnabled c s e → ⊥
-not_enabled c s e none = by (event_of c e) none
-  where
-    by : (o : Option runs.Event) → option_map (step_by c) o ≡ None → MayHappen c s o → ⊥
-    by None q h = h
-    by (Some ev) q h = absurd (cc)
-
 -- ---- a judged event
 
 pub moved_by : (c : Circuit) (s : State) (ev : runs.Event) → runs.after (fabric c) s ev ≡ moved s (step_by c ev)

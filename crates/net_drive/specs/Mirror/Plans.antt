@@ -1,12 +1,11 @@
 -- Mirror of what is worked out of a network before it is driven.
-use Rattle.std.specs.Prelude.{◌≡◌, ℕ, suc, ◌+◌, ◌-◌, ◌<◌, ◌≤◌, List, [], ◌∷◌, map, length, drop, slice_get, slice_index_or, Some}
+use Rattle.std.specs.Prelude.{◌≡◌, ℕ, ◌+◌, List, [], ◌∷◌, map, length, drop, slice_get, Some}
 use Rattle.cmd_tree.specs.declared.tree.Proc.{Proc}
 use Rattle.cmd_machine.specs.Mirror.Walkers.{row_at, users_from}
 use Rattle.net_core.specs.Wiring.{Node, Circuit}
 use Rattle.place_graph.specs.Points.{OneOf}
 use Rattle.replay.specs.declared.event.Event.{Event}
 use Rattle.net_drive.specs.declared.plan.Plan.{Plan}
-use Rattle.net_drive.specs.declared.plan.Sharing.{Sharing}
 use Rattle.net_drive.specs.Drawn.{possible, gives_of, outputs_in, give_of}
 
 -- where the fires of each of these components begin, and where the last ones end

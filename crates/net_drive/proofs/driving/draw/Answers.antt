@@ -1,6 +1,6 @@
-use Rattle.std.proofs.Common.{◌≡◌, ℕ, ◌<◌, ◌%◌, ◌∙◌, ap, subst, arith}
+use Rattle.std.proofs.Common.{◌%◌, ◌∙◌, subst, arith}
 use Rattle.std.proofs.lemmas.Option.{slice_get-get_or}
-use Rattle.net_drive.specs.Bits.{trues, IsNth}
+use Rattle.net_drive.specs.Bits.{IsNth}
 use Rattle.net_drive.proofs.Listing.{picked_at, bit_within}
 use Rattle.net_drive.proofs.driving.draw.Goals as goal
 

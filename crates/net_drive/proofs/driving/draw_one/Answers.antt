@@ -1,17 +1,13 @@
-use Rattle.std.proofs.Common.{◌≡◌, ℕ, ◌+◌, ◌-◌, ◌<◌, ◌≤◌, ◌∙◌, List, [], ◌∷◌, ◌++◌, Bool, refl, sym, ap, subst, arith}
+use Rattle.std.proofs.Common.{◌≡◌, ◌∙◌, refl, sym, ap, subst, arith}
 use Rattle.rand_pcg.specs.Pcg.{pcg32}
 use Rattle.cmd_tree.specs.declared.command.Command.{Command}
 use Rattle.net_core.specs.declared.spec.NodeSpec.TheVariants.{Cmd}
-use Rattle.net_core.specs.Runs.{start}
 use Rattle.net_core.specs.Wiring.{Circuit}
 use Rattle.net_core.specs.Networks.{IsSpecified}
-use Rattle.replay.specs.declared.event.Event.{Event}
-use Rattle.replay.specs.Answers.{Course, IsPlayable, IsAnswer, event_of, left_by, state_of}
+use Rattle.replay.specs.Answers.{Course, IsPlayable, IsAnswer, state_of}
 use Rattle.replay.specs.Probes.{AllSteady, views_of}
-use Rattle.replay.proofs.Judging.{after_more}
-use Rattle.net_drive.specs.Drawn.{Draws, Drawn, quiet, hazard, possible, IsListing}
+use Rattle.net_drive.specs.Drawn.{Draws, quiet, hazard}
 use Rattle.net_drive.specs.Mirror.Plans.{IsPlan}
-use Rattle.net_drive.specs.Mirror.Refreshing.{AllRight}
 use Rattle.net_drive.proofs.OnWay.{word_draws, none_to_draw, right_next}
 use Rattle.net_drive.proofs.driving.draw_one.Goals as goal
 

@@ -1,4 +1,4 @@
-use Rattle.std.proofs.Common.{◌≡◌, ℕ, ◌+◌, ◌*◌, ◌<◌, ◌≤◌, ◌∙◌, List, length, map, vec_len, rules, sym, ap, subst, arith}
+use Rattle.std.proofs.Common.{◌≡◌, ℕ, ◌+◌, ◌*◌, ◌≤◌, ◌∙◌, List, length, vec_len, rules, sym, ap, subst, arith}
 use Rattle.std.proofs.lemmas.List.{length-map}
 use Rattle.cmd_tree.specs.declared.command.Command.{Command}
 use Rattle.cmd_tree.specs.declared.tree.Sym.{Sym}
@@ -6,7 +6,7 @@ use Rattle.net_core.specs.declared.spec.NodeSpec.TheVariants.{Cmd}
 use Rattle.net_core.specs.Runs.{start}
 use Rattle.net_core.specs.Wiring.{Circuit}
 use Rattle.net_core.specs.Networks.{IsSpecified}
-use Rattle.replay.specs.Answers.{Course, state_of}
+use Rattle.replay.specs.Answers.{Course}
 use Rattle.net_drive.specs.Drawn.{generator_of, widest}
 use Rattle.net_drive.specs.Mirror.Plans.{IsPlan}
 use Rattle.net_drive.proofs.OnWay.{seen_low, drawn_few, mapped_none, asked_wide}

@@ -1,6 +1,5 @@
-use Rattle.std.proofs.Common.{◌≡◌, ◌<◌, ◌≤◌, ◌/◌, length, refl, arith}
-use Rattle.net_drive.specs.Mirror.SumTrees.{two}
-use Rattle.net_drive.proofs.SumTrees.{at_root, go_left, go_right, at_leaf, node_some, half_size, node_less, node_past}
+use Rattle.std.proofs.Common.{◌<◌, ◌/◌, length, refl, arith}
+use Rattle.net_drive.proofs.SumTrees.{at_root, go_left, go_right, at_leaf, node_some, node_less, node_past}
 use Rattle.net_drive.proofs.index.find.Goals as goal
 
 pub loop-node-init : goal.loop-node-init

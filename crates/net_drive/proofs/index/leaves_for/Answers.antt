@@ -1,4 +1,4 @@
-use Rattle.std.proofs.Common.{ap, ◌∙◌, ◌*◌, suc, arith}
+use Rattle.std.proofs.Common.{suc, arith}
 use Rattle.net_drive.proofs.SumTrees.{two_more}
 use Rattle.net_drive.proofs.index.leaves_for.Goals as goal
 

@@ -1,4 +1,4 @@
-use Rattle.std.proofs.Common.{◌≡◌, Bool, refl, arith, ap, ◌∙◌}
+use Rattle.std.proofs.Common.{refl, ◌∙◌}
 use Rattle.net_drive.proofs.SumTrees.{put_at, bit_of}
 use Rattle.net_drive.proofs.index.put.Goals as goal
 

@@ -1,4 +1,4 @@
-use Rattle.std.proofs.Common.{◌≡◌, ◌-◌, ℕ, set}
+use Rattle.std.proofs.Common.{◌≡◌, ℕ, set}
 use Rattle.net_drive.specs.Mirror.SumTrees.{IsTreeBelow}
 use Rattle.net_drive.proofs.index.put.Given as goal
 

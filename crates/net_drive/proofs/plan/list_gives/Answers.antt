@@ -1,4 +1,4 @@
-use Rattle.std.proofs.Common.{◌≡◌, ◌<◌, ◌≤◌, ◌∙◌, ◌^◌, List, length, get_or, Vec, Global, Bool, not, true, vec_len, rules, ap, arith}
+use Rattle.std.proofs.Common.{◌≡◌, ◌<◌, ◌∙◌, List, length, get_or, Vec, Global, Bool, not, true, vec_len, rules, ap, arith}
 use Rattle.net_core.specs.Specs.{outs_of}
 use Rattle.net_core.specs.Wiring.{Node, Circuit}
 use Rattle.replay.specs.declared.event.Event.{Event}

@@ -1,10 +1,9 @@
-use Rattle.std.proofs.Common.{◌≡◌, ◌<◌, ◌≤◌, ◌∙◌, ◌++◌, length, map, get_or, List, vec_len, rules, ap, arith}
+use Rattle.std.proofs.Common.{◌≡◌, ◌<◌, ◌∙◌, ◌++◌, length, map, get_or, List, vec_len, rules, ap, arith}
 use Rattle.std.specs.List.{range_with_len}
-use Rattle.net_core.specs.declared.spec.NodeSpec.{NodeSpec}
 use Rattle.net_core.specs.Wiring.{Node, Circuit}
 use Rattle.replay.specs.declared.event.Event.TheVariants.{Fire}
 use Rattle.net_drive.specs.Drawn.{outputs_in}
-use Rattle.net_drive.proofs.Planned.{fires_on, starts_on, fires_end, starts_end}
+use Rattle.net_drive.proofs.Planned.{fires_on, starts_on}
 use Rattle.net_drive.proofs.plan.push_fires.Goals as goal
 
 pub loop-component-preserved : goal.loop-component-preserved

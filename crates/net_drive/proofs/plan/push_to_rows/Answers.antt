@@ -1,4 +1,4 @@
-use Rattle.std.proofs.Common.{◌≡◌, ◌<◌, ◌∙◌, inl, inr, get_or, set, refl, sym, ap, subst, arith}
+use Rattle.std.proofs.Common.{inl, inr, get_or, set, refl, sym, subst, arith}
 use Rattle.std.proofs.lemmas.Bool.{cases_eq}
 use Rattle.place_graph.specs.Points.{OneOf}
 use Rattle.cmd_machine.proofs.Noting.{rows_of}

@@ -1,4 +1,4 @@
-use Rattle.std.proofs.Common.{◌≡◌, ℕ, ◌<◌, get_or}
+use Rattle.std.proofs.Common.{ℕ, ◌<◌, get_or}
 use Rattle.place_graph.specs.Points.{OneOf}
 use Rattle.cmd_machine.proofs.Noting.{rows_of}
 use Rattle.net_drive.proofs.plan.push_to_rows.Given as goal

@@ -1,4 +1,4 @@
-use Rattle.std.proofs.Common.{◌≡◌, ◌⊎◌, inl, inr, ◌<◌, ◌∙◌, length, get_or, sym, ap, subst, arith}
+use Rattle.std.proofs.Common.{inl, inr, ◌<◌, ◌∙◌, length, get_or, sym, ap, arith}
 use Rattle.std.proofs.lemmas.Bool.{cases_eq}
 use Rattle.replay.specs.Answers.{state_of}
 use Rattle.net_drive.proofs.Refreshed.{tested_then, tested_of, place_of}

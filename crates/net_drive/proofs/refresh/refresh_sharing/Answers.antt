@@ -1,7 +1,6 @@
-use Rattle.std.proofs.Common.{◌≡◌, ◌⊎◌, inl, inr, ◌<◌, ◌∙◌, List, length, get_or, map, Vec, Global, ℕ, sym, ap, subst, arith}
+use Rattle.std.proofs.Common.{◌≡◌, inl, inr, ◌∙◌, List, get_or, ℕ, sym, ap, subst, arith}
 use Rattle.std.proofs.lemmas.Bool.{cases_eq}
 use Rattle.place_graph.specs.Points.{OneOf}
-use Rattle.cmd_machine.specs.Mirror.Walkers.{row_at}
 use Rattle.cmd_machine.proofs.Noting.{Row, rows_of}
 use Rattle.replay.specs.declared.event.Event.{Event}
 use Rattle.replay.specs.Answers.{state_of}

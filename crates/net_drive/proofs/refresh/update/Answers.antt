@@ -1,5 +1,4 @@
-use Rattle.std.proofs.Common.{◌≡◌, ℕ, ◌+◌, ◌-◌, ◌≤◌, ◌∙◌, List, length, get_or, suc, Some, sym, ap, subst, arith}
-use Rattle.net_core.specs.Wiring.{Circuit}
+use Rattle.std.proofs.Common.{◌≡◌, ℕ, ◌+◌, ◌-◌, ◌≤◌, List, get_or, suc, Some, sym, ap, subst, arith}
 use Rattle.replay.specs.declared.event.Event.{Event}
 use Rattle.replay.specs.Answers.{state_of}
 use Rattle.replay.specs.Mirror.Steps.{step_for}

@@ -1,4 +1,4 @@
-use Rattle.std.proofs.Common.{◌≡◌, ◌<◌, ◌∙◌, List, Bool, length, vec_len, rules, arith, sym, ap}
+use Rattle.std.proofs.Common.{◌≡◌, ◌<◌, ◌∙◌, List, Bool, length, vec_len, rules, arith, ap}
 use Rattle.net_drive.specs.Bits.{trues}
 use Rattle.net_drive.proofs.SumTrees.{two_some, root, read_is}
 use Rattle.net_drive.proofs.index.BitIndex.count.Goals as goal

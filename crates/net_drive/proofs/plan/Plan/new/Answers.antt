@@ -1,4 +1,4 @@
-use Rattle.std.proofs.Common.{◌≡◌, ◌+◌, ◌<◌, ◌≤◌, ◌∙◌, Fits, w32, arith, ◌++◌, List, length, map, drop, vec_len, rules, sym, ap, subst, append_assoc}
+use Rattle.std.proofs.Common.{◌≡◌, ◌+◌, ◌<◌, ◌∙◌, Fits, w32, arith, ◌++◌, List, length, map, drop, vec_len, rules, ap, subst, append_assoc}
 use Rattle.std.specs.List.{range_with_len, AllByRecursion}
 use Rattle.std.proofs.lemmas.List.{length-append}
 use Rattle.net_core.specs.Wiring.{Circuit, IsNetwork, IsWired}
