@@ -23,20 +23,6 @@ use Rattle.net_drive.specs.Mirror.Refreshing.{AllRight}
 use Rattle.net_drive.specs.Mirror.Driving.{IsOnWay, picked}
 use Rattle.net_drive.proofs.Listing.{none_listed, draws}
 
-pub at_start : (c : Circuit) (first : Lcg) (steps : ℕ) (r : Course) (events : List Event) → r ≡ record { net = c; events = []; room = steps }
-    → events ≡ [] → IsOnWay c first steps 0 r first events
-at_start c first steps r events is none = record {
-  net = ap (λ (u : Course). u.net) is;
-  applied = ap (λ (u : Course). u.events) is ∙ sym none;
-  many = ap length none;
-  room = (let e = ap (λ (u : Course). u.room) is in omega (arith, e));
-  rest = λ n es stop e d.
-      let same : n ≡ steps = omega (arith, e) in
-      let state : state_of r ≡ start = ap state_of is in
-      subst (λ (xs : List Event). Drawn c steps first start (xs ++ es) stop) (sym none)
-      (subst (λ m. Drawn c m first start es stop) same (subst (λ u. Drawn c n first u es stop) state d));
-}
-
 module _ (c : Circuit) (first : Lcg) (steps taken : ℕ) (r : Course) (g : Lcg) (events : List Event)
     (w : IsOnWay c first steps taken r g events) where
   pub at_end : steps ≤ taken → taken ≤ steps → Drawn c steps first start events All

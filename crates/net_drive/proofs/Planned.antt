@@ -1,5 +1,5 @@
 -- How the plan of a network is worked out.
-use Rattle.std.proofs.Common.{◌≡◌, inl, inr, ℕ, zero, suc, ◌+◌, ◌<◌, ◌≤◌, ◌^◌, Bool, true, false, not, if◌then◌else◌, List, [], ◌∷◌, ◌++◌, length, map, drop, set, get_or, Some, refl, sym, ap, ◌∙◌, subst, arith, append-nil, append_assoc}
+use Rattle.std.proofs.Common.{◌≡◌, inl, inr, ℕ, zero, suc, ◌+◌, ◌<◌, ◌≤◌, ◌^◌, Bool, true, false, List, [], ◌∷◌, ◌++◌, length, map, drop, set, get_or, Some, refl, sym, ap, ◌∙◌, subst, arith, append-nil, append_assoc}
 use Rattle.std.specs.Prelude.{filter}
 use Rattle.std.specs.List.{range_with_len}
 use Rattle.std.proofs.lemmas.Bool.{cases_eq}
@@ -16,10 +16,10 @@ use Rattle.net_core.specs.declared.spec.NodeSpec.TheVariants.{Cmd}
 use Rattle.cmd_tree.specs.Limits.{marks_of_all}
 use Rattle.net_core.specs.Specs.{outs_of, gives_symbol}
 use Rattle.net_core.specs.Wiring.{Node, Circuit}
-use Rattle.net_core.specs.Networks.{directions, gives, spec_of, IsSpecified}
+use Rattle.net_core.specs.Networks.{spec_of, IsSpecified}
 use Rattle.replay.specs.declared.event.Event.{Event}
 use Rattle.replay.specs.declared.event.Event.TheVariants.{Fire}
-use Rattle.net_drive.specs.Drawn.{give_of, gives_of, outputs_in, fires_from}
+use Rattle.net_drive.specs.Drawn.{give_of, outputs_in, fires_from}
 use Rattle.net_drive.specs.Mirror.Plans.{starts_from}
 
 -- ---- ranges
@@ -62,22 +62,6 @@ module _ (f : ℕ → Bool) (n : ℕ) where
   pub give_passed : (events : List Event) → events ≡ map give_of (filter f (range_with_len 0 n)) → f n ≡ false
       → events ≡ map give_of (filter f (range_with_len 0 (n + 1)))
   give_passed events h e = h ∙ ap (map give_of) (sym (one_dropped e))
-
-filter_same : (f g : ℕ → Bool) → ((p : ℕ) → f p ≡ g p) → (xs : List ℕ) → filter f xs ≡ filter g xs
-filter_same f g h [] = refl
-filter_same f g h (x ∷ xs) = ap (λ b. if b then x ∷ filter f xs else filter f xs) (h x) ∙ ap (λ ys. if g x then x ∷ ys else ys) (filter_same f g h xs)
-
-turned : (outs : List Bool) (p : ℕ) → not (get_or outs p true) ≡ get_or (map not outs) p false
-turned [] p = refl
-turned (b ∷ outs) zero = refl
-turned (b ∷ outs) (suc p) = turned outs p
-
-pub gives_listed : (c : Circuit) (outs : List Bool) (events : List Event) (n : ℕ) → directions c 0 ≡ map not outs → n ≡ length outs
-    → events ≡ map give_of (filter (λ p. not (get_or outs p true)) (range_with_len 0 n)) → events ≡ gives_of c
-gives_listed c outs events n is many h = h
-    ∙ ap (λ m. map give_of (filter (λ p. not (get_or outs p true)) (range_with_len 0 m))) (many ∙ sym (length-map outs not) ∙ ap length (sym is))
-    ∙ ap (map give_of) (filter_same (λ p. not (get_or outs p true)) (gives c 0)
-    (λ p. turned outs p ∙ ap (λ ds. get_or ds p false) (sym is)) (range_with_len 0 (length (directions c 0))))
 
 -- ---- the fires
 

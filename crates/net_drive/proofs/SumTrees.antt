@@ -1,10 +1,10 @@
 -- Trees of sums: a node has the number of set bits at its leaves.
-use Rattle.std.proofs.Common.{◌≡◌, ◌≢◌, ◌⊎◌, inl, inr, ℕ, zero, suc, ◌+◌, ◌-◌, ◌*◌, ◌/◌, ◌<◌, ◌≤◌, Bool, true, false, true≢false, not, List, [], ◌∷◌, length, get_or, refl, sym, ap, ◌∙◌, subst, arith, set, get_or-set_same, get_or-set_other, replicate}
+use Rattle.std.proofs.Common.{◌≡◌, ◌≢◌, ◌⊎◌, inl, inr, ℕ, zero, suc, ◌+◌, ◌-◌, ◌*◌, ◌/◌, ◌<◌, ◌≤◌, Bool, true, false, true≢false, not, List, [], ◌∷◌, length, get_or, refl, sym, ap, ◌∙◌, subst, arith, set, get_or-set_same, get_or-set_other}
 use mir.Val.{bool_byte}
 use Rattle.std.proofs.Math.Bool.{beq}
 use Rattle.std.proofs.Math.Nat.{mul-add, mul-one, one-mul, zero-mul, add-mul}
 use Rattle.std.proofs.lemmas.Bool.{false≢true, cases_eq}
-use Rattle.std.proofs.lemmas.List.{length-set, length-replicate}
+use Rattle.std.proofs.lemmas.List.{length-set}
 use Rattle.net_drive.specs.Bits.{one_if, trues, below, IsNth}
 use Rattle.net_drive.specs.Mirror.SumTrees.{two, sum_at, IsSum, IsOff, IsTree, IsTreeBelow, IsAbove}
 
@@ -356,15 +356,6 @@ module _ (height : ℕ) (sums : List ℕ) (bits : List Bool) (k : ℕ) (on : Boo
         parent = parent_up;
       }
 
-pub at_top : (height : ℕ) (sums : List ℕ) (bits : List Bool) (k : ℕ) (on : Bool) → IsTreeBelow height sums bits k on → k ≤ 1
-    → IsTree height sums bits
-at_top height sums bits k on t h = record {
-  size = t.size;
-  fits = t.fits;
-  leaf = t.leaf;
-  inner = λ j p less. t.inner j p less (omega (arith, p, h)) (omega (arith, p, h));
-}
-
 -- ---- as the code has it
 
 half_is : (n a : ℕ) → n ≡ a + a → n / 2 ≡ a
@@ -407,27 +398,3 @@ put_at height sums bits index on t less other bit is =
     subst (λ m. IsTreeBelow height (set sums (m + index) bit) (set bits index on) (m + index) on) (sym half)
     (subst (λ b. IsTreeBelow height (set sums (two height + index) b) (set bits index on) (two height + index) on) (sym is)
     (put_leaf height sums bits index on t less (differ (get_or bits index false) on other)))
-
--- ---- a new tree
-
-constant : {A : Type 0} (n i : ℕ) (a : A) → get_or (replicate n a) i a ≡ a
-constant zero i a = refl
-constant (suc n) zero a = refl
-constant (suc n) (suc i) a = constant n i a
-
-pub new_tree : (height size : ℕ) → size ≤ two height → IsTree height (replicate (2 * two height) 0) (replicate size false)
-new_tree height size h = record {
-  size = length-replicate (2 * two height) 0 ∙ omega arith;
-  fits = (let e = length-replicate size false in omega (arith, e, h));
-  leaf = λ i less. nought (2 * two height) (two height + i) ∙ ap one_if (sym (unset size i));
-  inner = λ j p less. (let none : get_or (replicate (2 * two height) 0) j 0 ≡ 0 = nought (2 * two height) j in none) ∙ sums (nought (2 * two height) (j + j)) (nought (2 * two height) (suc (j + j)));
-}
-  where
-    sums : {a b : ℕ} → a ≡ 0 → b ≡ 0 → ◌≡◌ {A = ℕ} 0 (a + b)
-    sums p q = omega (arith, p, q)
-
-    nought : (n i : ℕ) → ◌≡◌ {A = ℕ} (get_or (replicate n 0) i 0) 0
-    nought n i = constant n i 0
-
-    unset : (n i : ℕ) → get_or (replicate n false) i false ≡ false
-    unset n i = constant n i false
