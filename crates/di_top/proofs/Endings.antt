@@ -4,6 +4,7 @@ use Rattle.std.specs.Prelude.{◌⊎◌, []}
 use Rattle.cmd_tree.specs.declared.limits.TheConstants.{MAX_FILE_BYTES}
 use Rattle.replay.specs.Probes.{View}
 use Rattle.count_sum.specs.declared.counts.Basis.{Basis}
+use Rattle.net_text.proofs.CommandLine.{AreRead}
 use Rattle.di_top.specs.declared.outcome.Outcome.{Outcome}
 use Rattle.di_top.specs.declared.outcome.Outcome.TheVariants.{Done, Usage, WriteFault, NoMemory}
 use Rattle.di_top.specs.Requests.{Request, Compile, files_of}
@@ -28,10 +29,10 @@ stop_not_fault : (o : Outcome) → IsStop o → o ≢ WriteFault
 stop_not_fault o s e = let P : Outcome → Type 0 = IsStop in subst P e s
 
 -- a call that answers what its form gives answers the one outcome that it gives, or that memory is missing
-answered : (request : Option Request) (r : Reading) (stop outcome : Outcome) → outcome ≡ stop → Gives request r stop → Tells r (files_of request)
+answered : AreRead → (request : Option Request) (r : Reading) (stop outcome : Outcome) → outcome ≡ stop → Gives request r stop → Tells r (files_of request)
     → Quiet r (files_of request) → (answer : Outcome) → FormGives request r answer → (outcome ≡ NoMemory) ⊎ (outcome ≡ answer)
-answered request r stop outcome e (inl m) t q answer h = inl (e ∙ m)
-answered request r stop outcome e (inr g) t q answer h = inr (e ∙ one_answer request r t q stop answer g h)
+answered law request r stop outcome e (inl m) t q answer h = inl (e ∙ m)
+answered law request r stop outcome e (inr g) t q answer h = inr (e ∙ one_answer law request r t q stop answer g h)
 
 -- a count that stayed did not rise
 still : (c : Change) → Unchanged c → CanRise c → Failed c → ⊥
@@ -62,9 +63,9 @@ spoke_line request r say stop outcome names h (Broken e f said) = record {
   gained = said;
 }
 
-finished : (request : Option Request) (r : Reading) (out say : Change) (back : List View) (outcome : Outcome) (text : List ℕ) → outcome ≡ Done
+finished : AreRead → (request : Option Request) (r : Reading) (out say : Change) (back : List View) (outcome : Outcome) (text : List ℕ) → outcome ≡ Done
     → Finishes request r text back → Gained out text → Unchanged say → Promise request r out say back outcome
-finished request r out say back outcome text e f gained u =
+finished law request r out say back outcome text e f gained u =
     let P : Outcome → Type 0 = λ o. Gives request r o in
     record {
       order = inr (subst P (sym e) f.gives);
@@ -76,13 +77,13 @@ finished request r out say back outcome text e f gained u =
       table = λ w a b. absurd (cc);
       out_rises = λ h. f.gives;
       say_rises = λ h. absurd (no_rise say u h);
-      exact = λ t q fo fs a h. answered request r Done outcome e f.gives t q a h;
+      exact = λ t q fo fs a h. answered law request r Done outcome e f.gives t q a h;
     }
 
-said : (request : Option Request) (r : Reading) (out say : Change) (back : List View) (stop outcome : Outcome) (names : List (List ℕ))
+said : AreRead → (request : Option Request) (r : Reading) (out say : Change) (back : List View) (stop outcome : Outcome) (names : List (List ℕ))
     → Halts request r stop names → Unchanged out → back ≡ [] → outcome ≡ stop → Gained say (say_line names stop) → CutLine request r say
     → Promise request r out say back outcome
-said request r out say back stop outcome names s u none e gained line =
+said law request r out say back stop outcome names s u none e gained line =
     let P : Outcome → Type 0 = λ o. Gives request r o in
     let Q : Outcome → Type 0 = λ o. Said request r say o in
     record {
@@ -95,7 +96,7 @@ said request r out say back stop outcome names s u none e gained line =
       table = λ w a b. absurd (stop_not_fault stop s.stops (sym e ∙ w));
       out_rises = λ h. absurd (no_rise out u h);
       say_rises = λ h. inr line;
-      exact = λ t q fo fs a h. answered request r stop outcome e s.gives t q a h;
+      exact = λ t q fo fs a h. answered law request r stop outcome e s.gives t q a h;
     }
 
 unsaid : (request : Option Request) (r : Reading) (out say : Change) (back : List View) (outcome : Outcome)
@@ -140,45 +141,45 @@ cut_short request r out say back outcome text kept g f gained none e whole front
   exact = λ t q fo fs a h. absurd (fo f);
 }
 
-pub promised : (request : Option Request) (r : Reading) (out say : Change) (back : List View) (outcome : Outcome)
+pub promised : AreRead → (request : Option Request) (r : Reading) (out say : Change) (back : List View) (outcome : Outcome)
     → Ends request r out say back outcome → Promise request r out say back outcome
-promised request r out say back outcome (Finished text e f gained u) = finished request r out say back outcome text e f gained u
-promised request r out say back outcome (Stopped stop names s u none (Spoken e gained)) =
-    said request r out say back stop outcome names s u none e gained (spoke_line request r say stop outcome names s (Spoken e gained))
-promised request r out say back outcome (Stopped stop names s u none (Broken e f gained)) =
+promised law request r out say back outcome (Finished text e f gained u) = finished law request r out say back outcome text e f gained u
+promised law request r out say back outcome (Stopped stop names s u none (Spoken e gained)) =
+    said law request r out say back stop outcome names s u none e gained (spoke_line request r say stop outcome names s (Spoken e gained))
+promised law request r out say back outcome (Stopped stop names s u none (Broken e f gained)) =
     unsaid request r out say back outcome u none e f (spoke_line request r say stop outcome names s (Broken e f gained))
-promised request r out say back outcome (Cut text kept g f gained none (Spoken e line)) =
+promised law request r out say back outcome (Cut text kept g f gained none (Spoken e line)) =
     cut_short request r out say back outcome text kept g f gained none e (λ h. line) (front_whole say.old say.new (say_line [] WriteFault) line)
-promised request r out say back outcome (Cut text kept g f gained none (Broken e k line)) =
+promised law request r out say back outcome (Cut text kept g f gained none (Broken e k line)) =
     cut_short request r out say back outcome text kept g f gained none e (λ h. absurd (h k)) line
 
 -- the same, where the words were read as this request
-pub ended_usage : (request : Option Request) (r : Reading) (out say : Change) (back : List View) (outcome : Outcome) → None ≡ request
+pub ended_usage : AreRead → (request : Option Request) (r : Reading) (out say : Change) (back : List View) (outcome : Outcome) → None ≡ request
     → Unchanged out → back ≡ [] → Spoke Usage [] say outcome → Promise request r out say back outcome
-ended_usage request r out say back outcome e u none s =
+ended_usage law request r out say back outcome e u none s =
     let P : Option Request → Type 0 = λ q. Promise q r out say back outcome in
     let halts : Halts None r Usage [] = record { stops = tt; gives = inr refl; named = tt } in
-    subst P e (promised None r out say back outcome (Stopped Usage [] halts u none s))
+    subst P e (promised law None r out say back outcome (Stopped Usage [] halts u none s))
 
-pub ended_stop : (request : Option Request) (t : Request) (r : Reading) (out say : Change) (back : List View) (stop outcome : Outcome)
+pub ended_stop : AreRead → (request : Option Request) (t : Request) (r : Reading) (out say : Change) (back : List View) (stop outcome : Outcome)
     (names : List (List ℕ)) → Some t ≡ request → Halts (Some t) r stop names → Unchanged out → back ≡ [] → Spoke stop names say outcome
     → Promise request r out say back outcome
-ended_stop request t r out say back stop outcome names e h u none s =
+ended_stop law request t r out say back stop outcome names e h u none s =
     let P : Option Request → Type 0 = λ q. Promise q r out say back outcome in
-    subst P e (promised (Some t) r out say back outcome (Stopped stop names h u none s))
+    subst P e (promised law (Some t) r out say back outcome (Stopped stop names h u none s))
 
-pub ended_done : (request : Option Request) (t : Request) (r : Reading) (out say : Change) (back : List View) (text : List ℕ) → Some t ≡ request
+pub ended_done : AreRead → (request : Option Request) (t : Request) (r : Reading) (out say : Change) (back : List View) (text : List ℕ) → Some t ≡ request
     → Finishes (Some t) r text back → Gained out text → Unchanged say → Promise request r out say back Done
-ended_done request t r out say back text e f gained u =
+ended_done law request t r out say back text e f gained u =
     let P : Option Request → Type 0 = λ q. Promise q r out say back Done in
-    subst P e (promised (Some t) r out say back Done (Finished text refl f gained u))
+    subst P e (promised law (Some t) r out say back Done (Finished text refl f gained u))
 
-pub ended_cut : (request : Option Request) (t : Request) (r : Reading) (out say : Change) (back kept : List View) (text : List ℕ) (outcome : Outcome)
+pub ended_cut : AreRead → (request : Option Request) (t : Request) (r : Reading) (out say : Change) (back kept : List View) (text : List ℕ) (outcome : Outcome)
     → Some t ≡ request → Finishes (Some t) r text kept → Failed out → GainedFront out text → back ≡ [] → Spoke WriteFault [] say outcome
     → Promise request r out say back outcome
-ended_cut request t r out say back kept text outcome e g f gained none s =
+ended_cut law request t r out say back kept text outcome e g f gained none s =
     let P : Option Request → Type 0 = λ q. Promise q r out say back outcome in
-    subst P e (promised (Some t) r out say back outcome (Cut text kept g f gained none s))
+    subst P e (promised law (Some t) r out say back outcome (Cut text kept g f gained none s))
 
 -- a file that is admitted and read is done, or finds no memory
 pub complete : (request : Option Request) (r : Reading) (out say : Change) (back : List View) (outcome : Outcome) → Promise request r out say back outcome

@@ -4,6 +4,7 @@ use Rattle.std.specs.Prelude.{⊤}
 use Rattle.cmd_tree.specs.declared.tree.Proc.{Proc}
 use Rattle.cmd_tree.specs.declared.limits.TheConstants.{MAX_FILE_BYTES}
 use Rattle.count_sum.specs.declared.counts.Basis.{Basis}
+use Rattle.net_text.proofs.CommandLine.{AreRead}
 use Rattle.di_top.specs.declared.outcome.Outcome.{Outcome}
 use Rattle.di_top.specs.declared.outcome.Outcome.TheVariants.{Done}
 use Rattle.di_top.specs.Requests.{Request, Compile, Check, Count, Rules, Run, files_of}
@@ -103,14 +104,14 @@ compile_once basis procs a b (inr (inr (form, many, e))) (inr (inr (forms, more,
 check_once : (procs : List Proc) (a b : Outcome) → CheckUses procs a → CheckUses procs b → a ≡ b
 check_once procs a b e h = e ∙ sym h
 
-pub one_answer : (request : Option Request) (r : Reading) → Tells r (files_of request) → Quiet r (files_of request)
+pub one_answer : AreRead → (request : Option Request) (r : Reading) → Tells r (files_of request) → Quiet r (files_of request)
     → (a b : Outcome) → FormGives request r a → FormGives request r b → a ≡ b
-one_answer None r t q a b e h = e ∙ sym h
-one_answer (Some (Compile basis file)) r t q a b g h = file_answer (CompileUses basis) (compile_once basis) r file t.0 q.0 a b g h
-one_answer (Some (Check file)) r t q a b g h = file_answer CheckUses check_once r file t.0 q.0 a b g h
-one_answer (Some (Count basis file)) r t q a b g h = file_answer CheckUses check_once r file t.0 q.0 a b g h
-one_answer (Some (Rules file)) r t q a b g h = rules_answer r file t.0 q.0 a b g h
-one_answer (Some (Run netlist schedule kept)) r t q a b g h = run_answer r netlist schedule t.0 t.1.0 q.0 q.1.0 a b g h
+one_answer law None r t q a b e h = e ∙ sym h
+one_answer law (Some (Compile basis file)) r t q a b g h = file_answer (CompileUses basis) (compile_once basis) r file t.0 q.0 a b g h
+one_answer law (Some (Check file)) r t q a b g h = file_answer CheckUses check_once r file t.0 q.0 a b g h
+one_answer law (Some (Count basis file)) r t q a b g h = file_answer CheckUses check_once r file t.0 q.0 a b g h
+one_answer law (Some (Rules file)) r t q a b g h = rules_answer r file t.0 q.0 a b g h
+one_answer law (Some (Run netlist schedule kept)) r t q a b g h = run_answer law r netlist schedule t.0 t.1.0 q.0 q.1.0 a b g h
 
 -- ---- what is admitted is done
 admits_holds : (Suits : List Proc → Type 0) (r : Reading) (file : List ℕ) (a : FileAdmits Suits r file)

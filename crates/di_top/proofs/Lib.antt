@@ -8,3 +8,4 @@ pub mod Replays
 pub mod RunAnswers
 pub mod Sourcing
 pub mod Stops
+pub mod Unwatched

@@ -1,5 +1,7 @@
 -- From two texts that were read, and the replay of their events, to what is answered, printed and handed back.
-use Rattle.std.proofs.Common.{◌≡◌, ◌≢◌, ◌⊎◌, inl, inr, ℕ, ◌+◌, ◌≤◌, ◌<◌, List, [], ◌∷◌, ◌++◌, Option, Some, None, arith, refl, sym, ◌∙◌, subst, ap, length, length-append, take}
+use Rattle.std.proofs.Common.{◌≡◌, ◌≢◌, ◌⊎◌, inl, inr, ℕ, ◌+◌, ◌-◌, ◌≤◌, ◌<◌, List, [], ◌∷◌, ◌++◌, Option, Some, None, arith, refl, sym, ◌∙◌, subst, ap, get_or, length, length-append, take}
+use Rattle.std.proofs.lemmas.List.{take_all, take_more}
+use Rattle.std.proofs.lemmas.Option.{slice_get-get_or}
 use Rattle.std.specs.Prelude.{slice_get}
 use Rattle.std.specs.Option.{IfSome}
 use Rattle.cmd_tree.specs.declared.command.Command.{Command}
@@ -17,7 +19,7 @@ use Rattle.replay.specs.declared.event.Answer.{Answer}
 use Rattle.replay.specs.declared.event.Answer.TheVariants as answer
 use Rattle.replay.specs.declared.schedule.ScheduleRefusal.{ScheduleRefusal}
 use Rattle.replay.specs.declared.schedule.ScheduleRefusal.TheVariants as schedule
-use Rattle.replay.specs.Answers.{IsPlayable, event_of, IsAnswer, left_by, state_after, AreDone, IsStop as IsEnd, IsReplayed}
+use Rattle.replay.specs.Answers.{Course, IsPlayable, event_of, IsAnswer, left_by, state_after, state_of, AreDone, IsStop as IsEnd, IsReplayed}
 use Rattle.replay.specs.Probes.{View, seen_of, all_stepped}
 use Rattle.replay.specs.ScheduleText.{AreLinesOf, text_of, IsSchedule, IsFaultyLine, line_told}
 use Rattle.di_top.specs.declared.outcome.Outcome.{Outcome}
@@ -27,7 +29,7 @@ use Rattle.di_top.specs.Calls.{Reading}
 use Rattle.di_top.specs.Plans.{IsStop, names_in}
 use Rattle.di_top.specs.Ends.{Finishes, Halts}
 use Rattle.di_top.specs.RunForm.{AreLoaded, IsUnread, First, Second, AreTexts, TextsStop, TooLong, MoreTooLong, NoNet, NoSchedule, told_of_net, told_of_schedule, told_of_answer, told_of_last, watched, names_of, names_of_spec, Unloaded, Unfit, Played, NetNames, RunNames, RunHands}
-use Rattle.di_top.specs.Mirror.Replayed.{EndsReplay, IsHalted, IsRan}
+use Rattle.di_top.specs.Mirror.Replayed.{IsUnderWay, EndsReplay, IsHalted, IsRan}
 use Rattle.di_top.proofs.RunAnswers.{run_done}
 
 -- ---- what was read
@@ -100,6 +102,48 @@ ends_at c es n e a d at is ne = record {
   where
     stop_of : Option Event → Type 0
     stop_of o = IsEnd c (state_after c start (take n es)) o (Some a)
+
+-- ---- the events one after the other
+
+pub none_applied : (c : Circuit) (es : List Event) (applied : List Event) (kept : List View) → applied ≡ [] → IsUnderWay c es 0 applied kept kept
+none_applied c es applied kept e = record { are = e; done = tt; watched_by = refl }
+
+-- the answer to the next event
+answer_there : (c : Circuit) (es : List Event) (i : ℕ) (e : Event) (a : Answer) (r : Course) → r.net ≡ c → r.events ≡ take i es
+    → IsAnswer r.net (state_of r) e a → IsAnswer c (state_after c start (take i es)) e a
+answer_there c es i e a r same are is =
+    let P : Circuit → Type 0 = λ d. IsAnswer d (state_after d start r.events) e a in
+    let Q : List Event → Type 0 = λ fs. IsAnswer c (state_after c start fs) e a in
+    subst Q are (subst P same is)
+
+pub one_applied : (c : Circuit) (es : List Event) (i : ℕ) (d : Event) (kept now next : List View) (r s : Course) → r.net ≡ c
+    → IsUnderWay c es i r.events kept now → i < length es → IsAnswer r.net (state_of r) (get_or es i d) answer.Done
+    → s ≡ record r { events = r.events ++ get_or es i d ∷ []; room = r.room - 1 }
+    → next ≡ all_stepped (seen_of r.net (get_or es i d)) now → IsUnderWay c es (i + 1) s.events kept next
+one_applied c es i d kept now next r s same w less is made seen =
+    let e : Event = get_or es i d in
+    let more : take (i + 1) es ≡ take i es ++ get_or es i d ∷ [] = take_more es i d less in
+    let P : List Event → Type 0 = λ fs. AreDone c start fs in
+    record {
+      are = ap (λ (u : Course). u.events) made ∙ ap (λ fs. fs ++ get_or es i d ∷ []) w.are ∙ sym more;
+      done = subst P (sym more) (done_more c start (take i es) e w.done (answer_there c es i e answer.Done r same w.are is));
+      watched_by = seen ∙ ap (λ (k : Circuit). all_stepped (seen_of k (get_or es i d)) now) same
+          ∙ ap (all_stepped (seen_of c (get_or es i d))) w.watched_by
+          ∙ sym (watched_more c (take i es) (get_or es i d) kept) ∙ sym (ap (λ fs. watched c fs kept) more);
+    }
+
+pub one_refused : (c : Circuit) (es : List Event) (i : ℕ) (d : Event) (a : Answer) (kept now : List View) (r : Course) → r.net ≡ c
+    → IsUnderWay c es i r.events kept now → i < length es → IsAnswer r.net (state_of r) (get_or es i d) a → a ≢ answer.Done
+    → EndsReplay c es (told_of_answer (i + 1) a)
+one_refused c es i d a kept now r same w less is ne =
+    ends_at c es i (get_or es i d) a w.done (slice_get-get_or es i d less) (answer_there c es i (get_or es i d) a r same w.are is) ne
+
+pub all_applied : (c : Circuit) (es : List Event) (i : ℕ) (applied : List Event) (kept now : List View) → IsUnderWay c es i applied kept now → length es ≤ i
+    → AreDone c start es × (applied ≡ es) × (now ≡ watched c es kept)
+all_applied c es i applied kept now w past =
+    let all : take i es ≡ es = take_all i es past in
+    let P : List Event → Type 0 = λ fs. AreDone c start fs in
+    (subst P all w.done, w.are ∙ all, w.watched_by ∙ ap (λ fs. watched c fs kept) all)
 
 -- ---- what is answered
 

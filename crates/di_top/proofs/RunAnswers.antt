@@ -5,11 +5,11 @@ use Rattle.std.specs.Prelude.{slice_get}
 use Rattle.std.proofs.lemmas.List.{take_all}
 use Rattle.std.proofs.lemmas.Option.{slice_get_past}
 use Rattle.cmd_tree.specs.declared.limits.TheConstants.{MAX_NETLIST_BYTES}
-use Rattle.cmd_text.proofs.CanonicalRead.{canonical_read}
 use Rattle.net_core.specs.Runs.{State, start}
 use Rattle.net_core.specs.Wiring.{Circuit}
 use Rattle.net_text.specs.declared.refusal.NetRefusal.{NetRefusal}
 use Rattle.net_text.specs.NetFault.{NetFault, IsNetlist}
+use Rattle.net_text.proofs.CommandLine.{AreRead}
 use Rattle.net_text.proofs.FaultLaw.{not_both, one_net, one_fault}
 use Rattle.replay.specs.declared.event.Event.{Event}
 use Rattle.replay.specs.declared.event.Answer.{Answer}
@@ -94,42 +94,42 @@ all_done c es n (Some a) r e = absurd (done_last a (n + 1) (stop_refused c (stat
 
 -- ---- two texts are of one network and one list of events
 
-same_net : (bytes more : List ℕ) (c d : Circuit) (es fs : List Event) → AreTexts bytes more c es → AreTexts bytes more d fs → c ≡ d
-same_net bytes more c d es fs t u = one_net canonical_read bytes c d t.netlist u.netlist
+same_net : AreRead → (bytes more : List ℕ) (c d : Circuit) (es fs : List Event) → AreTexts bytes more c es → AreTexts bytes more d fs → c ≡ d
+same_net law bytes more c d es fs t u = one_net law bytes c d t.netlist u.netlist
 
 same_events : (bytes more : List ℕ) (c : Circuit) (es fs : List Event) → AreTexts bytes more c es → AreTexts bytes more c fs → es ≡ fs
 same_events bytes more c es fs t u = same_schedule (names_of c) more es fs t.schedule u.schedule
 
-not_stopped : (bytes more : List ℕ) (c : Circuit) (es : List Event) (outcome : Outcome) → AreTexts bytes more c es → TextsStop bytes more outcome → ⊥
-not_stopped bytes more c es outcome t (TooLong long e) = omega (arith, long, t.few)
-not_stopped bytes more c es outcome t (MoreTooLong few long e) = omega (arith, long, t.few_more)
-not_stopped bytes more c es outcome t (NoNet refusal few short fault e) = not_both canonical_read bytes c refusal t.netlist fault
-not_stopped bytes more c es outcome t (NoSchedule d line few short net faulty e) =
+not_stopped : AreRead → (bytes more : List ℕ) (c : Circuit) (es : List Event) (outcome : Outcome) → AreTexts bytes more c es → TextsStop bytes more outcome → ⊥
+not_stopped law bytes more c es outcome t (TooLong long e) = omega (arith, long, t.few)
+not_stopped law bytes more c es outcome t (MoreTooLong few long e) = omega (arith, long, t.few_more)
+not_stopped law bytes more c es outcome t (NoNet refusal few short fault e) = not_both law bytes c refusal t.netlist fault
+not_stopped law bytes more c es outcome t (NoSchedule d line few short net faulty e) =
     let P : Circuit → Type 0 = λ x. IsFaultyLine (names_of x) more line in
-    no_schedule (names_of c) more es line t.schedule (subst P (one_net canonical_read bytes d c net t.netlist) faulty)
+    no_schedule (names_of c) more es line t.schedule (subst P (one_net law bytes d c net t.netlist) faulty)
 
-one_stop : (bytes more : List ℕ) (a b : Outcome) → TextsStop bytes more a → TextsStop bytes more b → a ≡ b
-one_stop bytes more a b (TooLong long e) (TooLong longer h) = e ∙ sym h
-one_stop bytes more a b (TooLong long e) (MoreTooLong few longer h) = absurd (omega (arith, long, few))
-one_stop bytes more a b (TooLong long e) (NoNet refusal few short fault h) = absurd (omega (arith, long, few))
-one_stop bytes more a b (TooLong long e) (NoSchedule c line few short net faulty h) = absurd (omega (arith, long, few))
-one_stop bytes more a b (MoreTooLong few long e) (TooLong longer h) = absurd (omega (arith, few, longer))
-one_stop bytes more a b (MoreTooLong few long e) (MoreTooLong few2 longer h) = e ∙ sym h
-one_stop bytes more a b (MoreTooLong few long e) (NoNet refusal few2 short fault h) = absurd (omega (arith, long, short))
-one_stop bytes more a b (MoreTooLong few long e) (NoSchedule c line few2 short net faulty h) = absurd (omega (arith, long, short))
-one_stop bytes more a b (NoNet refusal few short fault e) (TooLong longer h) = absurd (omega (arith, few, longer))
-one_stop bytes more a b (NoNet refusal few short fault e) (MoreTooLong few2 longer h) = absurd (omega (arith, short, longer))
-one_stop bytes more a b (NoNet refusal few short fault e) (NoNet other few2 short2 fault2 h) =
-    e ∙ ap (λ r. Refused (Net r)) (one_fault canonical_read bytes refusal other fault fault2) ∙ sym h
-one_stop bytes more a b (NoNet refusal few short fault e) (NoSchedule c line few2 short2 net faulty h) =
-    absurd (not_both canonical_read bytes c refusal net fault)
-one_stop bytes more a b (NoSchedule c line few short net faulty e) (TooLong longer h) = absurd (omega (arith, few, longer))
-one_stop bytes more a b (NoSchedule c line few short net faulty e) (MoreTooLong few2 longer h) = absurd (omega (arith, short, longer))
-one_stop bytes more a b (NoSchedule c line few short net faulty e) (NoNet refusal few2 short2 fault h) =
-    absurd (not_both canonical_read bytes c refusal net fault)
-one_stop bytes more a b (NoSchedule c line few short net faulty e) (NoSchedule d other few2 short2 net2 faulty2 h) =
+one_stop : AreRead → (bytes more : List ℕ) (a b : Outcome) → TextsStop bytes more a → TextsStop bytes more b → a ≡ b
+one_stop law bytes more a b (TooLong long e) (TooLong longer h) = e ∙ sym h
+one_stop law bytes more a b (TooLong long e) (MoreTooLong few longer h) = absurd (omega (arith, long, few))
+one_stop law bytes more a b (TooLong long e) (NoNet refusal few short fault h) = absurd (omega (arith, long, few))
+one_stop law bytes more a b (TooLong long e) (NoSchedule c line few short net faulty h) = absurd (omega (arith, long, few))
+one_stop law bytes more a b (MoreTooLong few long e) (TooLong longer h) = absurd (omega (arith, few, longer))
+one_stop law bytes more a b (MoreTooLong few long e) (MoreTooLong few2 longer h) = e ∙ sym h
+one_stop law bytes more a b (MoreTooLong few long e) (NoNet refusal few2 short fault h) = absurd (omega (arith, long, short))
+one_stop law bytes more a b (MoreTooLong few long e) (NoSchedule c line few2 short net faulty h) = absurd (omega (arith, long, short))
+one_stop law bytes more a b (NoNet refusal few short fault e) (TooLong longer h) = absurd (omega (arith, few, longer))
+one_stop law bytes more a b (NoNet refusal few short fault e) (MoreTooLong few2 longer h) = absurd (omega (arith, short, longer))
+one_stop law bytes more a b (NoNet refusal few short fault e) (NoNet other few2 short2 fault2 h) =
+    e ∙ ap (λ r. Refused (Net r)) (one_fault law bytes refusal other fault fault2) ∙ sym h
+one_stop law bytes more a b (NoNet refusal few short fault e) (NoSchedule c line few2 short2 net faulty h) =
+    absurd (not_both law bytes c refusal net fault)
+one_stop law bytes more a b (NoSchedule c line few short net faulty e) (TooLong longer h) = absurd (omega (arith, few, longer))
+one_stop law bytes more a b (NoSchedule c line few short net faulty e) (MoreTooLong few2 longer h) = absurd (omega (arith, short, longer))
+one_stop law bytes more a b (NoSchedule c line few short net faulty e) (NoNet refusal few2 short2 fault h) =
+    absurd (not_both law bytes c refusal net fault)
+one_stop law bytes more a b (NoSchedule c line few short net faulty e) (NoSchedule d other few2 short2 net2 faulty2 h) =
     let P : Circuit → Type 0 = λ x. IsFaultyLine (names_of x) more line in
-    let there = subst P (one_net canonical_read bytes c d net net2) faulty in
+    let there = subst P (one_net law bytes c d net net2) faulty in
     e ∙ ap (λ n. Refused (Schedule (schedule.BadLine n))) (same_line (names_of d) more line other there faulty2) ∙ sym h
 
 -- ---- one outcome
@@ -141,7 +141,7 @@ unread_one : (r : Reading) (netlist schedule : List ℕ) (a : Outcome) → (Unre
 unread_one r netlist schedule a quiet still (First rose e) = quiet rose
 unread_one r netlist schedule a quiet still (Second rose e) = still rose
 
-module _ (r : Reading) (netlist schedule : List ℕ) (told : IsTold r netlist) (more_told : IsTold r schedule) where
+module _ (law : AreRead) (r : Reading) (netlist schedule : List ℕ) (told : IsTold r netlist) (more_told : IsTold r schedule) where
   -- what was loaded is the same each time
   stop_there : (bytes more others rest : List ℕ) (a : Outcome) → AreLoaded r netlist schedule bytes more → AreLoaded r netlist schedule others rest
       → TextsStop bytes more a → TextsStop others rest a
@@ -160,7 +160,7 @@ module _ (r : Reading) (netlist schedule : List ℕ) (told : IsTold r netlist) (
   one_played : (others rest : List ℕ) (c d : Circuit) (es fs : List Event) (n m : ℕ) (x y : Option Answer) → AreTexts others rest c es → AreTexts others rest d fs
       → IsReplayed c es n x → IsReplayed d fs m y → told_of_last n x ≡ told_of_last m y
   one_played others rest c d es fs n m x y t u p q =
-      let same : c ≡ d = same_net others rest c d es fs t u in
+      let same : c ≡ d = same_net law others rest c d es fs t u in
       let P : Circuit → Type 0 = λ k. AreTexts others rest k es in
       let R : Circuit → Type 0 = λ k. IsReplayed k es n x in
       let t2 = subst P same t in
@@ -173,12 +173,12 @@ module _ (r : Reading) (netlist schedule : List ℕ) (told : IsTold r netlist) (
   pub run_answer : (Unread r netlist → ⊥) → (Unread r schedule → ⊥) → (a b : Outcome) → RunGives r netlist schedule a → RunGives r netlist schedule b → a ≡ b
   run_answer quiet still a b (Unloaded u) h = absurd (unread_one r netlist schedule a quiet still u)
   run_answer quiet still a b (Unfit bytes more l s) (Unloaded u) = absurd (unread_one r netlist schedule b quiet still u)
-  run_answer quiet still a b (Unfit bytes more l s) (Unfit others rest m t) = one_stop others rest a b (stop_there bytes more others rest a l m s) t
+  run_answer quiet still a b (Unfit bytes more l s) (Unfit others rest m t) = one_stop law others rest a b (stop_there bytes more others rest a l m s) t
   run_answer quiet still a b (Unfit bytes more l s) (Played others rest c es n last m t p e) =
-      absurd (not_stopped others rest c es a t (stop_there bytes more others rest a l m s))
+      absurd (not_stopped law others rest c es a t (stop_there bytes more others rest a l m s))
   run_answer quiet still a b (Played bytes more c es n last l t p e) (Unloaded u) = absurd (unread_one r netlist schedule b quiet still u)
   run_answer quiet still a b (Played bytes more c es n last l t p e) (Unfit others rest m s) =
-      absurd (not_stopped others rest c es b (texts_there bytes more others rest c es l m t) s)
+      absurd (not_stopped law others rest c es b (texts_there bytes more others rest c es l m t) s)
   run_answer quiet still a b (Played bytes more c es n last l t p e) (Played others rest d fs k final m u q f) =
       e ∙ one_played others rest c d es fs n k last final (texts_there bytes more others rest c es l m t) u p q ∙ sym f
 

@@ -1,8 +1,11 @@
 ghost use Rattle.std.specs.Prelude.{◌≡◌};
 ghost use Rattle.di_top.specs.Say.{status_of};
+ghost use Rattle.di_top.specs.Plans.{names_in};
 
+use crate::names::names_of;
 use cmd_expand::ExpandRefusal;
 use cmd_text::Refusal;
+use cmd_tree::Name;
 use di_grammar::Broken;
 use net_core::Net;
 use net_text::NetRefusal;
@@ -169,6 +172,18 @@ impl From<ScheduleRefusal> for Outcome {
 pub struct Stop {
     pub outcome: Outcome,
     pub net: Option<Net>,
+}
+
+impl Stop {
+    /// The names with which the outcome is said.
+    pub fn names(&self) -> &[Name]
+        ensures { result.now ≡ names_in self.now.net }
+    {
+        match &self.net {
+            None => &[],
+            Some(net) => names_of(net),
+        }
+    }
 }
 
 impl From<Outcome> for Stop {

@@ -6,10 +6,9 @@ ghost use Rattle.di_io.specs.Faults.{Rose};
 ghost use Rattle.di_io.specs.Written.{Gains, GainsFront};
 ghost use Rattle.di_io.specs.Printing.{prints};
 ghost use Rattle.di_top.specs.Say.{say_line, why_line, text_line, expand_line, grammar_line, traces_line, net_line, schedule_line, answer_line, name_at, limit_line, allowed};
-ghost use Rattle.di_top.specs.Plans.{names_in};
 
-use crate::names::{name_bytes, names_of};
-use crate::outcome::{Outcome, Stop, Why};
+use crate::names::name_bytes;
+use crate::outcome::{Outcome, Why};
 use cmd_expand::ExpandRefusal;
 use cmd_text::Refusal;
 use cmd_tree::{
@@ -23,28 +22,18 @@ use replay::{Answer, ScheduleRefusal};
 use text_lines::{print_numbered, print_worded};
 use trace_laws::TraceRefusal;
 
-/// Puts the line of what ended a call; `Done` has none. After an error a front of it was put.
+/// Puts the line of an outcome, with these names of symbols; `Done` has none. After an error a front of it was put.
 #[tactic(auto, using(di_io::proofs::Prints::front_at), unfolding(di_io::specs::Printing::prints))]
-pub fn say_stop<S: Sink>(stop: &Stop, sink: &mut S) -> Result<(), PutFault>
+pub fn say_outcome<S: Sink>(outcome: Outcome, names: &[Name], sink: &mut S) -> Result<(), PutFault>
     ensures later { S.faults sink.old ≤ S.faults sink.new }
-    ensures ok { OnOk result (Gains (S.written sink.old) (S.written sink.new) (say_line (names_in stop.now.net) stop.now.outcome)) }
+    ensures ok { OnOk result (Gains (S.written sink.old) (S.written sink.new) (say_line names.now outcome)) }
     ensures failed { OnErr result (Rose (S.faults sink.old) (S.faults sink.new)) }
-    ensures front { OnErr result (GainsFront (S.written sink.old) (S.written sink.new) (say_line (names_in stop.now.net) stop.now.outcome)) }
+    ensures front { OnErr result (GainsFront (S.written sink.old) (S.written sink.new) (say_line names.now outcome)) }
 {
     let mut printer = Printer::new(sink);
-    print_outcome(stop.outcome, names_in(stop), &mut printer);
+    print_outcome(outcome, names, &mut printer);
     let (result, _sink) = printer.finish();
     result
-}
-
-/// The names with which the outcome is said.
-fn names_in(stop: &Stop) -> &[Name]
-    ensures { result.now ≡ names_in stop.now.net }
-{
-    match &stop.net {
-        None => &[],
-        Some(net) => names_of(net),
-    }
 }
 
 fn print_outcome<S: Sink>(outcome: Outcome, names: &[Name], printer: &mut Printer<'_, S>)

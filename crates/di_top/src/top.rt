@@ -3,13 +3,14 @@ ghost use Rattle.replay.specs.Probes.{views_of};
 ghost use Rattle.di_top.specs.Requests.{asked};
 ghost use Rattle.di_top.specs.Calls.{reading, change};
 ghost use Rattle.di_top.specs.Promised.{Promise};
-ghost use Rattle.di_top.specs.Plans.{names_in};
 ghost use Rattle.di_top.specs.Ends.{Spoke};
 
-use crate::outcome::{Outcome, Stop};
+use crate::outcome::Outcome;
 use crate::plan::{decide, put_plan};
-use crate::say::say_stop;
+use crate::say::say_outcome;
 use crate::words::read_words;
+use cmd_text::canonical_texts_are_read;
+use cmd_tree::Name;
 use di_io::{Shelf, Sink};
 use replay::Probe;
 use std::alloc::Global;
@@ -62,26 +63,28 @@ fn answer<P: Probe, F: Shelf, O: Sink, E: Sink>(
     ensures out_later { O.faults out.old ≤ O.faults out.new }
     ensures say_later { E.faults say.old ≤ E.faults say.new }
 {
+    // A law, for the proof alone.
+    canonical_texts_are_read();
     let mut probes = probes;
     let Some(task) = read_words(words, &mut probes) else {
-        return (end(Stop::from(Outcome::Usage), say), Vec::new(alloc));
+        return (end(Outcome::Usage, &[], say), Vec::new(alloc));
     };
     match decide(alloc, task, shelf, probes) {
-        Err(stop) => (end(stop, say), Vec::new(alloc)),
+        Err(stop) => (end(stop.outcome, stop.names(), say), Vec::new(alloc)),
         Ok((plan, kept)) => match put_plan(&plan, out) {
             Ok(()) => (Outcome::Done, kept),
-            Err(_) => (end(Stop::from(Outcome::WriteFault), say), Vec::new(alloc)),
+            Err(_) => (end(Outcome::WriteFault, &[], say), Vec::new(alloc)),
         },
     }
 }
 
-/// Says the line of this outcome. It is the outcome of the call, unless its line is not said.
-fn end<E: Sink>(stop: Stop, say: &mut E) -> Outcome
-    ensures spoke { Spoke stop.outcome (names_in stop.net) (change E.written E.faults say.old say.new) result }
+/// Says the line of this outcome, with these names of symbols. It is the outcome of the call, unless its line is not said.
+fn end<E: Sink>(stop: Outcome, names: &[Name], say: &mut E) -> Outcome
+    ensures spoke { Spoke stop names.now (change E.written E.faults say.old say.new) result }
     ensures later { E.faults say.old ≤ E.faults say.new }
 {
-    match say_stop(&stop, say) {
-        Ok(()) => stop.outcome,
+    match say_outcome(stop, names, say) {
+        Ok(()) => stop,
         Err(_) => Outcome::WriteFault,
     }
 }

@@ -1,5 +1,5 @@
 -- Mirror of what the code finds in a replay.
-use Rattle.std.specs.Prelude.{◌≡◌, ℕ, List, length, Option, Some}
+use Rattle.std.specs.Prelude.{◌≡◌, ℕ, List, length, take, Option, Some}
 use Rattle.cmd_tree.specs.declared.tree.Sym.{Sym}
 use Rattle.net_core.specs.Runs.{start}
 use Rattle.net_core.specs.Wiring.{Circuit}
@@ -9,6 +9,12 @@ use Rattle.replay.specs.Answers.{AreDone, IsReplayed, state_after, symbols}
 use Rattle.replay.specs.Probes.{View}
 use Rattle.di_top.specs.declared.outcome.Outcome.{Outcome}
 use Rattle.di_top.specs.RunForm.{told_of_last, names_of, outs_in, watched, run_text}
+
+-- the first i events are applied, and the probes have seen them
+pub record IsUnderWay (c : Circuit) (events : List Event) (i : ℕ) (applied : List Event) (kept now : List View) : Type 0 where
+  pub are : applied ≡ take i events
+  pub done : AreDone c start (take i events)
+  pub watched_by : now ≡ watched c (take i events) kept
 
 -- this is the outcome of an event that is not applied
 pub record EndsReplay (c : Circuit) (events : List Event) (outcome : Outcome) : Type 0 where
