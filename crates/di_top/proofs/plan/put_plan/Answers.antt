@@ -11,3 +11,9 @@ returns-in-Run-clause-ok g c = rw c.in-Run.is c.put_ran.ensures.ok
 
 pub returns-in-Run-clause-front : goal.returns-in-Run-clause-front
 returns-in-Run-clause-front g c = rw c.in-Run.is c.put_ran.ensures.front
+
+pub returns-in-Count-clause-ok : goal.returns-in-Count-clause-ok
+returns-in-Count-clause-ok g c = rw c.in-Count.is c.put_sums.ensures.ok
+
+pub returns-in-Count-clause-front : goal.returns-in-Count-clause-front
+returns-in-Count-clause-front g c = rw c.in-Count.is c.put_sums.ensures.front
