@@ -49,20 +49,30 @@ abbrev pub run_by : List ℕ → List ℕ → Option View → Option Request
 run_by netlist schedule None = None
 run_by netlist schedule (Some v) = Some (Run netlist schedule (v ∷ []))
 
--- What the words ask for, where these probes are handed in: nothing where they are of no form, or name a probe that is not
--- there.
-abbrev pub request_of : List (List ℕ) → List View → Option Request
-request_of (verb ∷ first ∷ second ∷ []) vs =
+-- the forms of two words, of three and of four
+abbrev pub of_two : List ℕ → List ℕ → Option Request
+of_two verb file =
+    if bytes_eq verb (codes "check") then Some (Check file)
+    else if bytes_eq verb (codes "rules") then Some (Rules file)
+    else None
+
+abbrev pub of_three : List ℕ → List ℕ → List ℕ → Option Request
+of_three verb first second =
     if bytes_eq verb (codes "compile") then compile_in (basis_of first) second
     else if bytes_eq verb (codes "count") then count_in (basis_of first) second
     else if bytes_eq verb (codes "run") then Some (Run first second [])
     else None
-request_of (verb ∷ file ∷ []) vs =
-    if bytes_eq verb (codes "check") then Some (Check file)
-    else if bytes_eq verb (codes "rules") then Some (Rules file)
-    else None
-request_of (verb ∷ netlist ∷ schedule ∷ word ∷ []) vs =
+
+abbrev pub of_four : List ℕ → List ℕ → List ℕ → List ℕ → List View → Option Request
+of_four verb netlist schedule word vs =
     if bytes_eq verb (codes "run") then run_by netlist schedule (first_with (rule_of word) vs) else None
+
+-- What the words ask for, where these probes are handed in: nothing where they are of no form, or name a probe that is not
+-- there.
+abbrev pub request_of : List (List ℕ) → List View → Option Request
+request_of (verb ∷ file ∷ []) vs = of_two verb file
+request_of (verb ∷ first ∷ second ∷ []) vs = of_three verb first second
+request_of (verb ∷ netlist ∷ schedule ∷ word ∷ []) vs = of_four verb netlist schedule word vs
 request_of _ vs = None
 
 abbrev pub asked : List (String Global) → List View → Option Request

@@ -1,6 +1,6 @@
 ghost use Rattle.std.specs.Prelude.{◌≡◌, List, option_map, string_bytes};
 ghost use Rattle.replay.specs.Probes.{View, views_of};
-ghost use Rattle.di_top.specs.Requests.{asked, basis_of, compile_in, count_in, rule_of, first_with, run_by};
+ghost use Rattle.di_top.specs.Requests.{asked, of_two, of_three, of_four, basis_of, compile_in, count_in, rule_of, first_with, run_by};
 ghost use Rattle.di_top.specs.Asked.{meant, asked_by, wanted_by};
 
 use crate::keep::{COUNT_RULE, PEAK_RULE, keep};
@@ -63,22 +63,53 @@ fn read_task(words: &[String]) -> Option<Task<'_>>
     ensures { (vs : List View) → asked_by result vs ≡ asked words.now vs }
 {
     match words {
-        [verb, basis, file] if verb.as_str() == "compile" => compile_task(basis, file),
-        [verb, basis, file] if verb.as_str() == "count" => count_task(basis, file),
-        [verb, netlist, schedule] if verb.as_str() == "run" => Some(Task::Run {
-            netlist: netlist.as_str(),
-            schedule: schedule.as_str(),
+        [verb, file] => task_of_two(verb, file),
+        [verb, first, second] => task_of_three(verb, first, second),
+        [verb, netlist, schedule, probe] => task_of_four(verb, netlist, schedule, probe),
+        _ => None,
+    }
+}
+
+fn task_of_two<'a>(verb: &String, file: &'a String) -> Option<Task<'a>>
+    ensures { (vs : List View) → asked_by result vs ≡ of_two (string_bytes verb.now) (string_bytes file.now) }
+{
+    match verb.as_str() {
+        "check" => Some(Task::Check {
+            file: file.as_str(),
+        }),
+        "rules" => Some(Task::Rules {
+            file: file.as_str(),
+        }),
+        _ => None,
+    }
+}
+
+fn task_of_three<'a>(verb: &String, first: &'a String, second: &'a String) -> Option<Task<'a>>
+    ensures { (vs : List View) → asked_by result vs ≡ of_three (string_bytes verb.now) (string_bytes first.now) (string_bytes second.now) }
+{
+    match verb.as_str() {
+        "compile" => compile_task(first, second),
+        "count" => count_task(first, second),
+        "run" => Some(Task::Run {
+            netlist: first.as_str(),
+            schedule: second.as_str(),
             wanted: None,
         }),
-        [verb, file] if verb.as_str() == "check" => Some(Task::Check {
-            file: file.as_str(),
-        }),
-        [verb, file] if verb.as_str() == "rules" => Some(Task::Rules {
-            file: file.as_str(),
-        }),
-        [verb, netlist, schedule, probe] if verb.as_str() == "run" => {
-            watched_run(netlist, schedule, probe)
-        }
+        _ => None,
+    }
+}
+
+fn task_of_four<'a>(
+    verb: &String,
+    netlist: &'a String,
+    schedule: &'a String,
+    probe: &String,
+) -> Option<Task<'a>>
+    ensures { (vs : List View) → asked_by result vs
+        ≡ of_four (string_bytes verb.now) (string_bytes netlist.now) (string_bytes schedule.now) (string_bytes probe.now) vs }
+{
+    match verb.as_str() {
+        "run" => watched_run(netlist, schedule, probe),
         _ => None,
     }
 }
