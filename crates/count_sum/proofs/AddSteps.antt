@@ -1,9 +1,9 @@
 -- Numbers of components that grow step by step.
-use Rattle.std.proofs.Common.{◌≡◌, ℕ, ◌+◌, ◌-◌, ◌<◌, ◌^◌, refl, sym, ap, ◌∙◌, arith}
+use Rattle.std.proofs.Common.{◌≡◌, ℕ, ◌+◌, ◌<◌, ◌^◌, refl, ap, ◌∙◌, arith}
 use Rattle.basic_kinds.specs.Sorts.{Sort, Wires, Iwires, Sources, Sinks, Forks, Joins, Merges, Toggles, Waits, Sequencers}
 use Rattle.basic_kinds.specs.Sums.{so_many}
 use Rattle.count_sum.specs.declared.counts.Counts.{Counts}
-use Rattle.count_sum.specs.Counts.{of_sort, all_sorts}
+use Rattle.count_sum.specs.Counts.{of_sort}
 use Rattle.count_sum.specs.Mirror.Adding.{Adds, HasRoom}
 use Rattle.count_sum.specs.Mirror.Parts.{added}
 use Rattle.count_sum.proofs.SortCounts.{added_at, all_low, all_same, one_low}

@@ -1,16 +1,15 @@
 -- Numbers of 32 bits count what is counted of an admitted command.
 use Rattle.std.specs.Prelude.{if◌then◌else◌}
 use Rattle.std.specs.List.{range_with_len, AllByRecursion}
-use Rattle.std.proofs.Common.{◌≡◌, ℕ, zero, suc, ◌+◌, ◌-◌, ◌<◌, ◌≤◌, ◌^◌, Bool, true, false, List, [], ◌∷◌, ◌++◌, length, map, Option, None, Some, refl, arith}
+use Rattle.std.proofs.Common.{◌≡◌, ℕ, ◌+◌, ◌-◌, ◌<◌, ◌≤◌, Bool, true, false, List, [], ◌∷◌, ◌++◌, length, map, Option, None, Some, refl, arith}
 use Rattle.std.proofs.lemmas.List.{length-map}
 use Rattle.cmd_tree.specs.declared.command.Command.{Command}
 use Rattle.cmd_tree.specs.declared.tree.Proc.{Proc}
-use Rattle.cmd_tree.specs.Tree.{TItem, TSeq, TSeqs, TBurst, TAlt, Done, Then, places_of}
+use Rattle.cmd_tree.specs.Tree.{TSeq, TSeqs, TBurst, TAlt, Done, Then, places_of}
 use Rattle.cmd_tree.specs.Limits.{IsSeq, IsPart, IsProc, count_of, of_part, places_of_all}
-use Rattle.process_laws.specs.GrantForms.{Giving}
 use Rattle.basic_kinds.specs.Sorts.{Iwires, Sources, Forks, Joins, Merges, Wires, Toggles}
 use Rattle.basic_kinds.specs.ShapeParts.{part_at, part_names}
-use Rattle.basic_kinds.specs.Sums.{Counted, One, Wide, Wait}
+use Rattle.basic_kinds.specs.Sums.{Counted, One, Wide}
 use Rattle.di_grammar.specs.Admitted.{Admitted}
 use Rattle.di_grammar.specs.Outputs.{out_of}
 use Rattle.di_grammar.specs.Sums.{gift, loan, all_of, of_several, plain_ring, release_ring, after_input, one_input, body_ring, ring_of_parts, ring, ring_or_none, rings, grants, made, standing, meeting, woven}

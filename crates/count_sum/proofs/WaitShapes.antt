@@ -1,11 +1,10 @@
 -- The shapes of a layer, and the parts of a shape, have their crossings in range.
 use Rattle.std.specs.Prelude.{nat_eq, nat_lt, not, if◌then◌else◌, ◌&&◌}
-use Rattle.std.proofs.Common.{◌≡◌, ℕ, zero, suc, ◌+◌, ◌*◌, ◌-◌, ◌<◌, ◌≤◌, ◌^◌, Bool, true, false, true≢false, List, [], ◌∷◌, ◌++◌, length, map, get_or, IsTrue, inl, inr, refl, sym, ap, ◌∙◌, arith, eqb-true, eq-eqb}
+use Rattle.std.proofs.Common.{◌≡◌, ℕ, zero, suc, ◌+◌, ◌*◌, ◌-◌, ◌<◌, ◌≤◌, ◌^◌, Bool, true, false, List, [], ◌∷◌, ◌++◌, length, map, get_or, IsTrue, refl, sym, ap, ◌∙◌, arith, eq-eqb}
 use Rattle.std.specs.List.{filter, list_all, range_with_len, AllByRecursion}
-use Rattle.std.proofs.lemmas.Bool.{and_parts, ltb-true, lt-ltb, le-ltb, cases_lt}
+use Rattle.std.proofs.lemmas.Bool.{and_parts, ltb-true, lt-ltb}
 use Rattle.std.proofs.lemmas.List.{length-map}
 use Rattle.basic_kinds.specs.Shapes.{is_within}
-use Rattle.basic_kinds.specs.Sorts.{how_many_below}
 use Rattle.basic_kinds.specs.ShapeParts.{label, part_at, part_names, part_rows, part_columns, local_part, local_crossing, has_row, has_column, half, first_rows, last_rows, met, outer, exchanged, exchanged_from, one_column}
 use Rattle.shape_parts.proofs.Chosen.{any_member, filter_below, place_at}
 use Rattle.shape_parts.proofs.Layered.{half_near, AreColumns, columns_within}

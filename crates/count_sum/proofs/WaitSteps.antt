@@ -1,5 +1,5 @@
 -- What the code of a layer reads, by the shapes that it made.
-use Rattle.std.proofs.Common.{◌≡◌, ℕ, zero, suc, ◌+◌, ◌-◌, ◌<◌, List, [], ◌∷◌, length, drop, get_or, refl, sym, ap, ◌∙◌, subst, arith}
+use Rattle.std.proofs.Common.{◌≡◌, ℕ, zero, suc, ◌+◌, ◌-◌, ◌<◌, List, [], ◌∷◌, length, drop, get_or, sym, ap, ◌∙◌, subst, arith}
 use Rattle.std.specs.List.{AllByRecursion}
 use Rattle.std.proofs.lemmas.List.{drop_more}
 use Rattle.basic_kinds.specs.Sorts.{Sort}
@@ -7,11 +7,11 @@ use Rattle.basic_kinds.specs.ShapeParts.{half, first_rows, last_rows, outer}
 use Rattle.shape_parts.specs.declared.cut.ShapePart.{ShapePart}
 use Rattle.count_sum.specs.declared.counts.Counts.{Counts}
 use Rattle.count_sum.specs.Counts.{of_sort}
-use Rattle.count_sum.specs.Mirror.Adding.{Adds, HasRoom}
+use Rattle.count_sum.specs.Mirror.Adding.{HasRoom}
 use Rattle.count_sum.specs.Mirror.Waits.{IsInRange, of_wait, of_group, of_layer, of_part, of_parts}
 use Rattle.count_sum.proofs.SortCounts.{all_same}
 use Rattle.count_sum.proofs.WaitLayers.{layer_is}
-use Rattle.count_sum.proofs.WaitShapes.{first_range, last_range, outer_range, IsPartInRange}
+use Rattle.count_sum.proofs.WaitShapes.{first_range, last_range, outer_range}
 
 module _ (rows cols : ℕ) (cross : List (ℕ × ℕ)) (wide : 2 < rows) (is : IsInRange rows cols cross) (h : ℕ) (o f l : List (ℕ × ℕ))
     (eh : h ≡ half rows) (eo : o ≡ outer (half rows) cols cross) (ef : f ≡ first_rows (half rows) cross) (el : l ≡ last_rows (half rows) cross) where

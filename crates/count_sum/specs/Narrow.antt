@@ -1,5 +1,5 @@
 -- What is counted of decision-waits and sequencers that are narrow.
-use Rattle.std.specs.Prelude.{ℕ, Bool, true, nat_lt, ◌&&◌}
+use Rattle.std.specs.Prelude.{Bool, true, nat_lt, ◌&&◌}
 use Rattle.basic_kinds.specs.Sums.{Counted, One, Wide, Wait, Sequencer}
 
 -- a DW of at most two rows and two columns, a SEQ of at most two requests, and all else

@@ -67,7 +67,8 @@ fn rounds(alloc: Global, many: usize) -> Result<Vec<u8>, Fail> {
 
 const ARBITER: &[u8] = b"main := pref*[a?;p!;c?;e!]||pref*[b?;q!;d?;f!]||pref*[p!;c?|q!;d?].";
 
-const OF_THREE: &[u8] = b"main := pref*[a1?;p1!;c1?;e1!]||pref*[a2?;p2!;c2?;e2!]||pref*[a3?;p3!;c3?;e3!]||pref*[p1!;c1?|p2!;c2?|p3!;c3?].";
+const OF_THREE: &[u8] =
+    b"main := pref*[a1?;p1!;c1?;e1!]||pref*[a2?;p2!;c2?;e2!]||pref*[a3?;p3!;c3?;e3!]||pref*[p1!;c1?|p2!;c2?|p3!;c3?].";
 
 const CHOICE: &[u8] = b"main := pref*[a?;b!;(c?;d!|e?;f!|g?;h!)].";
 
@@ -96,7 +97,13 @@ fn sums_in_the_basis_wide(rt: HostRuntime) -> Result<(), Fail> {
     };
     counted(alloc, b"main := pref[b!;*[a?;c!]].", Basis::Wide, source, 2)?;
     let toggle = Counts { toggle: 1, ..NONE };
-    counted(alloc, b"main := pref*[a?;b!;a?;c!].", Basis::Wide, toggle, 1)?;
+    counted(
+        alloc,
+        b"main := pref*[a?;b!;a?;c!].",
+        Basis::Wide,
+        toggle,
+        1,
+    )?;
     let waits = Counts {
         iwire: 1,
         fork: 3,

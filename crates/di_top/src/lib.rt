@@ -13,8 +13,8 @@ mod outcome;
 mod plan;
 mod rules_form;
 mod run_form;
-mod texts;
 mod say;
+mod texts;
 mod top;
 mod words;
 

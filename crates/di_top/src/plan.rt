@@ -50,12 +50,12 @@ pub fn decide<P: Probe, F: Shelf>(
             unwatched(alloc, plan_compile(alloc, basis, file, shelf))
         }
         Task::Check { file } => unwatched(alloc, plan_check(alloc, file, shelf)),
-        Task::Count { basis, file } => {
-            unwatched(alloc, plan_count(alloc, basis, file, shelf))
-        }
+        Task::Count { basis, file } => { unwatched(alloc, plan_count(alloc, basis, file, shelf)) }
         Task::Rules { file } => unwatched(alloc, plan_rules(alloc, file, shelf)),
         Task::Run {
-            netlist, schedule, ..
+            netlist,
+            schedule,
+            ..
         } => {
             let (ran, kept) = plan_run(alloc, netlist, schedule, shelf, probes)?;
             Ok((Plan::Run(ran), kept))

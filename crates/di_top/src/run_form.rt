@@ -214,11 +214,13 @@ fn print_figures<S: Sink>(figures: Option<Figures>, printer: &mut Printer<'_, S>
 {
     match figures {
         None => {}
-        Some(Figures::Count {
-            gives,
-            passes,
-            fires,
-        }) => {
+        Some(
+            Figures::Count {
+                gives,
+                passes,
+                fires,
+            },
+        ) => {
             print_numbered(b"gives ", gives, printer);
             print_numbered(b"passes ", passes, printer);
             print_numbered(b"fires ", fires, printer);

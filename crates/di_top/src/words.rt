@@ -11,13 +11,23 @@ use replay::Probe;
 #[derive(Clone, Copy)]
 pub enum Task<'a> {
     /// The netlist of the command in this file, in this basis.
-    Compile { basis: Basis, file: &'a str },
+    Compile {
+        basis: Basis,
+        file: &'a str,
+    },
     /// Whether the command in this file is admitted.
-    Check { file: &'a str },
+    Check {
+        file: &'a str,
+    },
     /// How many components a network of the command in this file has, in this basis.
-    Count { basis: Basis, file: &'a str },
+    Count {
+        basis: Basis,
+        file: &'a str,
+    },
     /// Whether the list of traces in this file keeps the rules of delay-insensitivity.
-    Rules { file: &'a str },
+    Rules {
+        file: &'a str,
+    },
     /// Whether the schedule in the second file is a run of the netlist in the first, watched by the probe with the rule
     /// that is wanted.
     Run {
@@ -50,10 +60,8 @@ impl Task<'_> {
     {
         match self {
             Task::Run { wanted, .. } => *wanted,
-            Task::Compile { .. }
-            | Task::Check { .. }
-            | Task::Count { .. }
-            | Task::Rules { .. } => None,
+            Task::Compile { .. } | Task::Check { .. } | Task::Count { .. } | Task::Rules { .. } =>
+                None,
         }
     }
 }
@@ -149,11 +157,7 @@ fn basis_of(name: &str) -> Option<Basis>
     }
 }
 
-fn watched_run<'a>(
-    netlist: &'a String,
-    schedule: &'a String,
-    probe: &String,
-) -> Option<Task<'a>>
+fn watched_run<'a>(netlist: &'a String, schedule: &'a String, probe: &String) -> Option<Task<'a>>
     ensures { (vs : List View) → asked_by result vs
         ≡ run_by (string_bytes netlist.now) (string_bytes schedule.now) (first_with (rule_of (string_bytes probe.now)) vs) }
 {

@@ -1,6 +1,5 @@
 use Rattle.std.proofs.Common.{List, sym, ap, ◌∙◌}
 use Rattle.std.proofs.lemmas.Result.{on_ok_weaker}
-use Rattle.basic_kinds.specs.Sorts.{Sort}
 use Rattle.basic_kinds.specs.Sums.{two_way_sum}
 use Rattle.count_sum.specs.declared.parts.Part.{Part}
 use Rattle.count_sum.specs.Mirror.Parts.{counted_of}

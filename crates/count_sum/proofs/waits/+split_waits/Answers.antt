@@ -1,7 +1,6 @@
-use Rattle.std.proofs.Common.{◌≡◌, ◌⊎◌, inl, inr, ℕ, ◌+◌, ◌-◌, ◌*◌, ◌<◌, ◌≤◌, ◌^◌, List, ◌∷◌, length, drop, get_or, refl, sym, ap, ◌∙◌, subst, arith}
-use Rattle.std.specs.Prelude.{OnOk}
+use Rattle.std.proofs.Common.{◌≡◌, ℕ, ◌+◌, ◌-◌, ◌*◌, ◌≤◌, List, drop, sym, ap, ◌∙◌, subst, arith}
 use Rattle.std.specs.List.{AllByRecursion}
-use Rattle.basic_kinds.specs.Sorts.{Sort, Forks, Joins, Merges, Waits}
+use Rattle.basic_kinds.specs.Sorts.{Forks, Joins, Merges, Waits}
 use Rattle.basic_kinds.specs.ShapeParts.{half, first_rows, last_rows, outer, exchanged}
 use Rattle.basic_kinds.specs.Sums.{so_many}
 use Rattle.shape_parts.proofs.Layered.{half_near}
@@ -38,9 +37,16 @@ add_part-exchanged-requires-clause-within t c = columns_range c.args.rows c.args
 
 pub add_part-add_layer-requires-then-cols-gt2 : goal.add_part-add_layer-requires-then-cols-gt2
 add_part-add_layer-requires-then-cols-gt2 t c =
-    let is : c.as_slice.result.now ≡ exchanged c.args.cols c.args.part.now = c.as_slice.ensures ∙ c.in_ok-turned.ensures in
-    (omega arith, (c.if-cols-gt2.true, (subst (IsInRange c.args.cols c.args.rows) (sym is) (exchanged_range c.args.rows c.args.cols c.args.part.now c.requires.shape),
-      room_same (λ s. part_by_columns c.args.rows c.args.cols c.args.part.now s (omega arith) (omega arith) c.if-cols-gt2.true ∙ ap (λ (p : List (ℕ × ℕ)). of_layer c.args.cols c.args.rows p s) (sym is)) c.requires.room)))
+    let is : c.as_slice.result.now ≡ exchanged c.args.cols c.args.part.now = c.as_slice.ensures ∙ c.in_ok-turned.ensures in (
+      omega arith,
+      (
+        c.if-cols-gt2.true,
+        (
+          subst (IsInRange c.args.cols c.args.rows) (sym is) (exchanged_range c.args.rows c.args.cols c.args.part.now c.requires.shape),
+          room_same (λ s. part_by_columns c.args.rows c.args.cols c.args.part.now s (omega arith) (omega arith) c.if-cols-gt2.true ∙ ap (λ (p : List (ℕ × ℕ)). of_layer c.args.cols c.args.rows p s) (sym is)) c.requires.room,
+        ),
+      ),
+    )
 
 pub add_part-returns-in_ok-turned : goal.add_part-returns-in_ok-turned
 add_part-returns-in_ok-turned t c =
@@ -202,10 +208,13 @@ add_wait-add_part-requires t c =
     let whole : HasRoom c.args.counts.now (of_parts ps) = room_same (λ s. wait_is c.args.rows c.args.cols c.args.cross.now s ∙ ap (λ (qs : List ShapePart). of_parts qs s) (sym are)) c.requires.room in
     let left : HasRoom c.loop-part.counts (of_parts (drop i ps)) = rest_room c.args.counts.now c.loop-part.counts (of_parts ps) (of_parts (drop i ps)) c.loop-part.invariant whole in
     let one : HasRoom c.loop-part.counts (λ s. of_part c.len-part_rows.result c.len-part_cols.result c.as_slice.result.now s + of_parts (drop (i + 1) ps) s) =
-    room_same (λ s. parts_drop ps i p s c.loop-part-test.true c.part-item.is ∙ sym (part_read c.len-part_rows.ensures c.len-part_cols.ensures c.as_slice.ensures s (of_parts (drop (i + 1) ps) s))) left in
-    (omega (arith, c.decreases, c.len-part_rows.ensures, c.len-part_cols.ensures, here.few_rows, here.few_columns),
-      (range_read c.len-part_rows.ensures c.len-part_cols.ensures c.as_slice.ensures here.range,
-      room_first (of_part c.len-part_rows.result c.len-part_cols.result c.as_slice.result.now) (of_parts (drop (i + 1) ps)) one))
+    room_same (λ s. parts_drop ps i p s c.loop-part-test.true c.part-item.is ∙ sym (part_read c.len-part_rows.ensures c.len-part_cols.ensures c.as_slice.ensures s (of_parts (drop (i + 1) ps) s))) left in (
+      omega (arith, c.decreases, c.len-part_rows.ensures, c.len-part_cols.ensures, here.few_rows, here.few_columns),
+      (
+        range_read c.len-part_rows.ensures c.len-part_cols.ensures c.as_slice.ensures here.range,
+        room_first (of_part c.len-part_rows.result c.len-part_cols.result c.as_slice.result.now) (of_parts (drop (i + 1) ps)) one,
+      ),
+    )
 
 pub add_wait-loop-part-preserved : goal.add_wait-loop-part-preserved
 add_wait-loop-part-preserved t c = λ s.

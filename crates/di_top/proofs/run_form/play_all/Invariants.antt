@@ -10,5 +10,5 @@ invariant-loop-index g l = record {
   room : length l.events ≤ l.replay.course.room + l.index;
   under_way : IsUnderWay l.initial.replay.course.net l.events l.index l.replay.course.events
       (views_of g.P.Probe.rule g.P.Probe.numbers g.P.Probe.steady l.initial.replay.probes.items)
-      (views_of g.P.Probe.rule g.P.Probe.numbers g.P.Probe.steady l.replay.probes.items)
+      (views_of g.P.Probe.rule g.P.Probe.numbers g.P.Probe.steady l.replay.probes.items);
 }

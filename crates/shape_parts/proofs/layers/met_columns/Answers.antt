@@ -1,8 +1,6 @@
-use Rattle.std.proofs.Common.{◌≡◌, List, Bool, map, subst, ap, ◌∙◌, sym, arith, false, filter, get_or, length}
+use Rattle.std.proofs.Common.{◌≡◌, List, subst, ap, ◌∙◌, arith, length}
 use Rattle.std.specs.Prelude.{IfOk}
-use Rattle.std.specs.List.{range_with_len}
 use Rattle.std.proofs.lemmas.List.FromFn.{length-map-range_with_len}
-use Rattle.basic_kinds.specs.ShapeParts.{has_column}
 use Rattle.shape_parts.specs.Keys.{is_among}
 use Rattle.shape_parts.proofs.Layered.{columns_low, met_marked}
 use Rattle.shape_parts.proofs.layers.met_columns.Goals as goal
