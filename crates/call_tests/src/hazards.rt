@@ -5,14 +5,11 @@ use std::process::Abort;
 use std::test::Fail;
 
 // Two processes share a MERGE, which hands on what each of them is given to the components behind it.
-const HEAD: &str = "dinet 1\nspec pref*[a?;b!]||pref*[c?;d!]\nport a? 0\nport b! 1\nport c? 2\nport d! 3\nMERGE 0 2 > 4\n";
+const HEAD: &str =
+    "dinet 1\nspec pref*[a?;b!]||pref*[c?;d!]\nport a? 0\nport b! 1\nport c? 2\nport d! 3\nMERGE 0 2 > 4\n";
 
 // The lines of the components, the events, and what is said.
-fn meet_each(
-    rt: &impl Abort,
-    alloc: Global,
-    rows: &[(&str, &str, &str)],
-) -> Result<(), Fail> {
+fn meet_each(rt: &impl Abort, alloc: Global, rows: &[(&str, &str, &str)]) -> Result<(), Fail> {
     for (lines, schedule, say) in rows {
         let netlist = format!(in alloc; "{HEAD}{lines}end\n")?;
         let ran = replay(alloc, "run N S peak", netlist.as_str(), schedule)?;
@@ -42,11 +39,7 @@ fn inputs_are_forbidden(rt: HostRuntime) -> Result<(), Fail> {
             TWICE,
             SECOND,
         ),
-        (
-            "SEQ 4 5 6 > 1 3\nSOURCE > 5\nSOURCE > 6\n",
-            TWICE,
-            SECOND,
-        ),
+        ("SEQ 4 5 6 > 1 3\nSOURCE > 5\nSOURCE > 6\n", TWICE, SECOND),
         (
             "IWIRE 4 > 5\nFORK 5 > 1 3\n",
             "give a\npass 0\nfire 1 1\npass 4\n",
@@ -57,7 +50,8 @@ fn inputs_are_forbidden(rt: HostRuntime) -> Result<(), Fail> {
 }
 
 // Both transitions reach a FORK, and both times a component that waits for two.
-const BOTH_TWICE: &str = "give a\npass 0\nfire 1 1\npass 4\nfire 2 1\nfire 2 2\npass 5\npass 6\nfire 3 1\ngive c\npass 2\nfire 1 1\npass 4\nfire 2 1\nfire 2 2\npass 5\npass 6\nfire 3 1\n";
+const BOTH_TWICE: &str =
+    "give a\npass 0\nfire 1 1\npass 4\nfire 2 1\nfire 2 2\npass 5\npass 6\nfire 3 1\ngive c\npass 2\nfire 1 1\npass 4\nfire 2 1\nfire 2 2\npass 5\npass 6\nfire 3 1\n";
 
 #[test]
 fn wires_are_busy(rt: HostRuntime) -> Result<(), Fail> {

@@ -43,8 +43,7 @@ fn compiles_to_two_way_components(rt: HostRuntime) -> Result<(), Fail> {
 #[test]
 fn keeps_what_is_two_way(rt: HostRuntime) -> Result<(), Fail> {
     let alloc = rt.alloc();
-    let text =
-        "main := pref*[a?;p!;c?;e!]||pref*[b?;q!;d?;f!]||pref*[p!;c?|q!;d?].";
+    let text = "main := pref*[a?;p!;c?;e!]||pref*[b?;q!;d?;f!]||pref*[p!;c?|q!;d?].";
     let two = compile(alloc, text)?;
     let wide = call(alloc, "compile wide F", Some(text), Vec::new(alloc))?;
     assert_eq!(rt; two.outcome, Outcome::Done);

@@ -6,6 +6,8 @@ mod calls;
 #[cfg(test)]
 mod compiled;
 #[cfg(test)]
+mod counted;
+#[cfg(test)]
 mod hazards;
 #[cfg(test)]
 mod judged;

@@ -9,10 +9,10 @@ use std::cell::Cell;
 use std::rc::Rc;
 use std::test::Fail;
 
-const JOIN: &str = "dinet 1\nspec pref*[(a?||b?);(c!||d!)]\nport a? 0\nport b? 1\nport c! 2\nport d! 3\nC 0 1 > 4\nFORK 4 > 2 3\nend\n";
+const JOIN: &str =
+    "dinet 1\nspec pref*[(a?||b?);(c!||d!)]\nport a? 0\nport b? 1\nport c! 2\nport d! 3\nC 0 1 > 4\nFORK 4 > 2 3\nend\n";
 
-const WHOLE: &str =
-    "give a\npass 0\ngive b\npass 1\nfire 1 1\npass 4\nfire 2 1\npass 2\n";
+const WHOLE: &str = "give a\npass 0\ngive b\npass 1\nfire 1 1\npass 4\nfire 2 1\npass 2\n";
 
 /// No clock shows this.
 const NEVER: u64 = u64::MAX;
@@ -111,11 +111,7 @@ struct Handed {
 }
 
 // Replays WHOLE on JOIN under the eyes of these probes.
-fn replay_with(
-    alloc: Global,
-    words: &str,
-    probes: Vec<Box<dyn Probe>>,
-) -> Result<Handed, Fail> {
+fn replay_with(alloc: Global, words: &str, probes: Vec<Box<dyn Probe>>) -> Result<Handed, Fail> {
     let words = split_words(alloc, words)?;
     let mut shelf = shelf_of(alloc, &[("N", JOIN), ("S", WHOLE)], Vec::new(alloc))?;
     let mut out = MemSink::new(alloc, 1000, Vec::new(alloc))?;

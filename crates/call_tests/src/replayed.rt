@@ -7,18 +7,14 @@ use std::test::Fail;
 
 // Calls where the file N has this netlist, and the file S this schedule.
 pub fn replay(alloc: Global, words: &str, netlist: &str, schedule: &str) -> Result<Ran, Fail> {
-    let shelf = shelf_of(
-        alloc,
-        &[("N", netlist), ("S", schedule)],
-        Vec::new(alloc),
-    )?;
+    let shelf = shelf_of(alloc, &[("N", netlist), ("S", schedule)], Vec::new(alloc))?;
     call_on(alloc, words, shelf, Vec::new(alloc))
 }
 
-const JOIN: &str = "dinet 1\nspec pref*[(a?||b?);(c!||d!)]\nport a? 0\nport b? 1\nport c! 2\nport d! 3\nC 0 1 > 4\nFORK 4 > 2 3\nend\n";
+const JOIN: &str =
+    "dinet 1\nspec pref*[(a?||b?);(c!||d!)]\nport a? 0\nport b? 1\nport c! 2\nport d! 3\nC 0 1 > 4\nFORK 4 > 2 3\nend\n";
 
-const WHOLE: &str =
-    "give a\npass 0\ngive b\npass 1\nfire 1 1\npass 4\nfire 2 1\npass 2\n";
+const WHOLE: &str = "give a\npass 0\ngive b\npass 1\nfire 1 1\npass 4\nfire 2 1\npass 2\n";
 
 // Schedules that are runs of JOIN: the words, the schedule, what is put on out, and how many probes are handed back.
 #[test]
@@ -62,11 +58,7 @@ fn replays_runs(rt: HostRuntime) -> Result<(), Fail> {
 }
 
 // Netlists with schedules, what is said of them, and the status. Nothing is put on out, and no probe is handed back.
-fn stop_each(
-    rt: &impl Abort,
-    alloc: Global,
-    rows: &[(&str, &str, &str, u8)],
-) -> Result<(), Fail> {
+fn stop_each(rt: &impl Abort, alloc: Global, rows: &[(&str, &str, &str, u8)]) -> Result<(), Fail> {
     for (netlist, schedule, say, status) in rows {
         let ran = replay(alloc, "run N S count", netlist, schedule)?;
         assert!(rt; ran.out.bytes().is_empty(), "{say}");
@@ -77,9 +69,11 @@ fn stop_each(
     Ok(())
 }
 
-const MERGED: &str = "dinet 1\nspec pref*[(a?||b?);c!]\nport a? 0\nport b? 1\nport c! 2\nMERGE 0 1 > 2\nend\n";
+const MERGED: &str =
+    "dinet 1\nspec pref*[(a?||b?);c!]\nport a? 0\nport b? 1\nport c! 2\nMERGE 0 1 > 2\nend\n";
 
-const MIXED: &str = "dinet 1\nspec pref*[a?;b!]||pref*[c?;d!]\nport a? 0\nport b! 1\nport c? 2\nport d! 3\nMERGE 0 2 > 4\nTOGGLE 4 > 1 3\nend\n";
+const MIXED: &str =
+    "dinet 1\nspec pref*[a?;b!]||pref*[c?;d!]\nport a? 0\nport b! 1\nport c? 2\nport d! 3\nMERGE 0 2 > 4\nTOGGLE 4 > 1 3\nend\n";
 
 #[test]
 fn stops_at_events(rt: HostRuntime) -> Result<(), Fail> {
