@@ -1,15 +1,16 @@
-ghost use Rattle.std.specs.Prelude.{◌≡◌, ◌≤◌, ℕ, List, [], Ok, Err, None, IfOk, IfErr, OnOk, OnErr, Some};
+ghost use Rattle.std.specs.Prelude.{◌≡◌, ◌≤◌, ℕ, List, IfOk, IfErr, OnOk, OnErr, Some};
 ghost use Rattle.di_io.specs.Faults.{Rose};
 ghost use Rattle.di_io.specs.Written.{Gains, GainsFront};
 ghost use Rattle.replay.specs.Probes.{views_of};
 ghost use Rattle.di_top.specs.Asked.{meant};
+ghost use Rattle.di_top.specs.Requests.{CompileWide, Check, Rules, Run};
 ghost use Rattle.di_top.specs.Calls.{reading};
 ghost use Rattle.di_top.specs.Ends.{Finishes, Halts};
 ghost use Rattle.di_top.specs.Plans.{text_of, names_in};
 
 use crate::check_form::{Counts, plan_check, put_counts};
 use crate::compile_form::plan_compile;
-use crate::outcome::{Outcome, Stop};
+use crate::outcome::Stop;
 use crate::rules_form::{Verdict, plan_rules, put_verdict};
 use crate::run_form::{Ran, plan_run, put_ran};
 use crate::words::Task;
@@ -44,27 +45,67 @@ pub fn decide<P: Probe, F: Shelf>(
     ensures later { (other : List ℕ) → F.faults shelf.old other ≤ F.faults shelf.new other }
 {
     match task {
-        Task::CompileWide { file } => unwatched(alloc, plan_compile(alloc, file, shelf)),
-        Task::Check { file } => unwatched(alloc, plan_check(alloc, file, shelf)),
-        Task::Rules { file } => unwatched(alloc, plan_rules(alloc, file, shelf)),
+        Task::CompileWide { file } => decide_compile(alloc, file, shelf),
+        Task::Check { file } => decide_check(alloc, file, shelf),
+        Task::Rules { file } => decide_rules(alloc, file, shelf),
         Task::Run {
             netlist, schedule, ..
-        } => {
-            let (ran, kept) = plan_run(alloc, netlist, schedule, shelf, probes)?;
-            Ok((Plan::Run(ran), kept))
-        }
+        } => decide_run(alloc, netlist, schedule, shelf, probes),
     }
 }
 
-/// The plan of a form that no probe watches.
-fn unwatched<P>(alloc: Global, plan: Result<Plan, Outcome>) -> Result<(Plan, Vec<P>), Stop>
-    ensures ok { IfOk result (λ done. (plan ≡ Ok done.0) × (done.1.items ≡ [])) }
-    ensures stop { IfErr result (λ stop. (plan ≡ Err stop.outcome) × (stop.net ≡ None)) }
+fn decide_compile<P: Probe, F: Shelf>(alloc: Global, file: &str, shelf: &mut F) -> Result<(Plan, Vec<P>), Stop>
+    ensures ok { IfOk result (λ done. Finishes (Some (CompileWide file.now)) (reading F.content F.faults shelf.old shelf.new)
+        (text_of done.0) (views_of P.rule P.numbers P.steady done.1.items)) }
+    ensures stop { IfErr result (λ stop. Halts (Some (CompileWide file.now)) (reading F.content F.faults shelf.old shelf.new)
+        stop.outcome (names_in stop.net)) }
+    ensures kept { (other : List ℕ) → F.content shelf.new other ≡ F.content shelf.old other }
+    ensures later { (other : List ℕ) → F.faults shelf.old other ≤ F.faults shelf.new other }
 {
-    match plan {
-        Ok(plan) => Ok((plan, Vec::new(alloc))),
-        Err(outcome) => Err(Stop { outcome, net: None }),
-    }
+    let plan = plan_compile(alloc, file, shelf)?;
+    Ok((plan, Vec::new(alloc)))
+}
+
+fn decide_check<P: Probe, F: Shelf>(alloc: Global, file: &str, shelf: &mut F) -> Result<(Plan, Vec<P>), Stop>
+    ensures ok { IfOk result (λ done. Finishes (Some (Check file.now)) (reading F.content F.faults shelf.old shelf.new)
+        (text_of done.0) (views_of P.rule P.numbers P.steady done.1.items)) }
+    ensures stop { IfErr result (λ stop. Halts (Some (Check file.now)) (reading F.content F.faults shelf.old shelf.new)
+        stop.outcome (names_in stop.net)) }
+    ensures kept { (other : List ℕ) → F.content shelf.new other ≡ F.content shelf.old other }
+    ensures later { (other : List ℕ) → F.faults shelf.old other ≤ F.faults shelf.new other }
+{
+    let plan = plan_check(alloc, file, shelf)?;
+    Ok((plan, Vec::new(alloc)))
+}
+
+fn decide_rules<P: Probe, F: Shelf>(alloc: Global, file: &str, shelf: &mut F) -> Result<(Plan, Vec<P>), Stop>
+    ensures ok { IfOk result (λ done. Finishes (Some (Rules file.now)) (reading F.content F.faults shelf.old shelf.new)
+        (text_of done.0) (views_of P.rule P.numbers P.steady done.1.items)) }
+    ensures stop { IfErr result (λ stop. Halts (Some (Rules file.now)) (reading F.content F.faults shelf.old shelf.new)
+        stop.outcome (names_in stop.net)) }
+    ensures kept { (other : List ℕ) → F.content shelf.new other ≡ F.content shelf.old other }
+    ensures later { (other : List ℕ) → F.faults shelf.old other ≤ F.faults shelf.new other }
+{
+    let plan = plan_rules(alloc, file, shelf)?;
+    Ok((plan, Vec::new(alloc)))
+}
+
+fn decide_run<P: Probe, F: Shelf>(
+    alloc: Global,
+    netlist: &str,
+    schedule: &str,
+    shelf: &mut F,
+    probes: Vec<P>,
+) -> Result<(Plan, Vec<P>), Stop>
+    ensures ok { IfOk result (λ done. Finishes (Some (Run netlist.now schedule.now (views_of P.rule P.numbers P.steady probes.items)))
+        (reading F.content F.faults shelf.old shelf.new) (text_of done.0) (views_of P.rule P.numbers P.steady done.1.items)) }
+    ensures stop { IfErr result (λ stop. Halts (Some (Run netlist.now schedule.now (views_of P.rule P.numbers P.steady probes.items)))
+        (reading F.content F.faults shelf.old shelf.new) stop.outcome (names_in stop.net)) }
+    ensures kept { (other : List ℕ) → F.content shelf.new other ≡ F.content shelf.old other }
+    ensures later { (other : List ℕ) → F.faults shelf.old other ≤ F.faults shelf.new other }
+{
+    let (ran, kept) = plan_run(alloc, netlist, schedule, shelf, probes)?;
+    Ok((Plan::Run(ran), kept))
 }
 
 /// Puts the text of a plan. It takes no memory. After an error a front of it was put.
