@@ -1,8 +1,9 @@
-ghost use Rattle.std.specs.Prelude.{◌≡◌, ◌≤◌, ℕ, List, [], Ok, Err, None, IfOk, IfErr, OnOk, OnErr, Some};
+ghost use Rattle.std.specs.Prelude.{◌≡◌, ◌≤◌, ℕ, List, IfOk, IfErr, OnOk, OnErr, Some};
 ghost use Rattle.di_io.specs.Faults.{Rose};
 ghost use Rattle.di_io.specs.Written.{Gains, GainsFront};
 ghost use Rattle.replay.specs.Probes.{views_of};
 ghost use Rattle.di_top.specs.Asked.{meant};
+ghost use Rattle.di_top.specs.Requests.{Compile, Check, Count, Rules, Run};
 ghost use Rattle.di_top.specs.Calls.{reading};
 ghost use Rattle.di_top.specs.Ends.{Finishes, Halts};
 ghost use Rattle.di_top.specs.Plans.{text_of, names_in};
@@ -10,10 +11,11 @@ ghost use Rattle.di_top.specs.Plans.{text_of, names_in};
 use crate::check_form::{Counts, plan_check, put_counts};
 use crate::compile_form::plan_compile;
 use crate::count_form::{Sums, plan_count, put_sums};
-use crate::outcome::{Outcome, Stop};
+use crate::outcome::Stop;
 use crate::rules_form::{Verdict, plan_rules, put_verdict};
 use crate::run_form::{Ran, plan_run, put_ran};
 use crate::words::Task;
+use count_sum::Basis;
 use di_io::{PutFault, Shelf, Sink};
 use net_core::Net;
 use net_text::write_net;
@@ -46,32 +48,80 @@ pub fn decide<P: Probe, F: Shelf>(
     ensures later { (other : List ℕ) → F.faults shelf.old other ≤ F.faults shelf.new other }
 {
     match task {
-        Task::Compile { basis, file } => {
-            unwatched(alloc, plan_compile(alloc, basis, file, shelf))
-        }
-        Task::Check { file } => unwatched(alloc, plan_check(alloc, file, shelf)),
-        Task::Count { basis, file } => { unwatched(alloc, plan_count(alloc, basis, file, shelf)) }
-        Task::Rules { file } => unwatched(alloc, plan_rules(alloc, file, shelf)),
+        Task::Compile { basis, file } => decide_compile(alloc, basis, file, shelf),
+        Task::Check { file } => decide_check(alloc, file, shelf),
+        Task::Count { basis, file } => decide_count(alloc, basis, file, shelf),
+        Task::Rules { file } => decide_rules(alloc, file, shelf),
         Task::Run {
-            netlist,
-            schedule,
-            ..
-        } => {
-            let (ran, kept) = plan_run(alloc, netlist, schedule, shelf, probes)?;
-            Ok((Plan::Run(ran), kept))
-        }
+            netlist, schedule, ..
+        } => decide_run(alloc, netlist, schedule, shelf, probes),
     }
 }
 
-/// The plan of a form that no probe watches.
-fn unwatched<P>(alloc: Global, plan: Result<Plan, Outcome>) -> Result<(Plan, Vec<P>), Stop>
-    ensures ok { IfOk result (λ done. (plan ≡ Ok done.0) × (done.1.items ≡ [])) }
-    ensures stop { IfErr result (λ stop. (plan ≡ Err stop.outcome) × (stop.net ≡ None)) }
+fn decide_compile<P: Probe, F: Shelf>(alloc: Global, basis: Basis, file: &str, shelf: &mut F) -> Result<(Plan, Vec<P>), Stop>
+    ensures ok { IfOk result (λ done. Finishes (Some (Compile basis file.now)) (reading F.content F.faults shelf.old shelf.new)
+        (text_of done.0) (views_of P.rule P.numbers P.steady done.1.items)) }
+    ensures stop { IfErr result (λ stop. Halts (Some (Compile basis file.now)) (reading F.content F.faults shelf.old shelf.new)
+        stop.outcome (names_in stop.net)) }
+    ensures kept { (other : List ℕ) → F.content shelf.new other ≡ F.content shelf.old other }
+    ensures later { (other : List ℕ) → F.faults shelf.old other ≤ F.faults shelf.new other }
 {
-    match plan {
-        Ok(plan) => Ok((plan, Vec::new(alloc))),
-        Err(outcome) => Err(Stop { outcome, net: None }),
-    }
+    let plan = plan_compile(alloc, basis, file, shelf)?;
+    Ok((plan, Vec::new(alloc)))
+}
+
+fn decide_count<P: Probe, F: Shelf>(alloc: Global, basis: Basis, file: &str, shelf: &mut F) -> Result<(Plan, Vec<P>), Stop>
+    ensures ok { IfOk result (λ done. Finishes (Some (Count basis file.now)) (reading F.content F.faults shelf.old shelf.new)
+        (text_of done.0) (views_of P.rule P.numbers P.steady done.1.items)) }
+    ensures stop { IfErr result (λ stop. Halts (Some (Count basis file.now)) (reading F.content F.faults shelf.old shelf.new)
+        stop.outcome (names_in stop.net)) }
+    ensures kept { (other : List ℕ) → F.content shelf.new other ≡ F.content shelf.old other }
+    ensures later { (other : List ℕ) → F.faults shelf.old other ≤ F.faults shelf.new other }
+{
+    let plan = plan_count(alloc, basis, file, shelf)?;
+    Ok((plan, Vec::new(alloc)))
+}
+
+fn decide_check<P: Probe, F: Shelf>(alloc: Global, file: &str, shelf: &mut F) -> Result<(Plan, Vec<P>), Stop>
+    ensures ok { IfOk result (λ done. Finishes (Some (Check file.now)) (reading F.content F.faults shelf.old shelf.new)
+        (text_of done.0) (views_of P.rule P.numbers P.steady done.1.items)) }
+    ensures stop { IfErr result (λ stop. Halts (Some (Check file.now)) (reading F.content F.faults shelf.old shelf.new)
+        stop.outcome (names_in stop.net)) }
+    ensures kept { (other : List ℕ) → F.content shelf.new other ≡ F.content shelf.old other }
+    ensures later { (other : List ℕ) → F.faults shelf.old other ≤ F.faults shelf.new other }
+{
+    let plan = plan_check(alloc, file, shelf)?;
+    Ok((plan, Vec::new(alloc)))
+}
+
+fn decide_rules<P: Probe, F: Shelf>(alloc: Global, file: &str, shelf: &mut F) -> Result<(Plan, Vec<P>), Stop>
+    ensures ok { IfOk result (λ done. Finishes (Some (Rules file.now)) (reading F.content F.faults shelf.old shelf.new)
+        (text_of done.0) (views_of P.rule P.numbers P.steady done.1.items)) }
+    ensures stop { IfErr result (λ stop. Halts (Some (Rules file.now)) (reading F.content F.faults shelf.old shelf.new)
+        stop.outcome (names_in stop.net)) }
+    ensures kept { (other : List ℕ) → F.content shelf.new other ≡ F.content shelf.old other }
+    ensures later { (other : List ℕ) → F.faults shelf.old other ≤ F.faults shelf.new other }
+{
+    let plan = plan_rules(alloc, file, shelf)?;
+    Ok((plan, Vec::new(alloc)))
+}
+
+fn decide_run<P: Probe, F: Shelf>(
+    alloc: Global,
+    netlist: &str,
+    schedule: &str,
+    shelf: &mut F,
+    probes: Vec<P>,
+) -> Result<(Plan, Vec<P>), Stop>
+    ensures ok { IfOk result (λ done. Finishes (Some (Run netlist.now schedule.now (views_of P.rule P.numbers P.steady probes.items)))
+        (reading F.content F.faults shelf.old shelf.new) (text_of done.0) (views_of P.rule P.numbers P.steady done.1.items)) }
+    ensures stop { IfErr result (λ stop. Halts (Some (Run netlist.now schedule.now (views_of P.rule P.numbers P.steady probes.items)))
+        (reading F.content F.faults shelf.old shelf.new) stop.outcome (names_in stop.net)) }
+    ensures kept { (other : List ℕ) → F.content shelf.new other ≡ F.content shelf.old other }
+    ensures later { (other : List ℕ) → F.faults shelf.old other ≤ F.faults shelf.new other }
+{
+    let (ran, kept) = plan_run(alloc, netlist, schedule, shelf, probes)?;
+    Ok((Plan::Run(ran), kept))
 }
 
 /// Puts the text of a plan. It takes no memory. After an error a front of it was put.
