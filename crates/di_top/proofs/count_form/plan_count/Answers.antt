@@ -16,10 +16,10 @@ returns-in_err-command-clause-stop g c =
     let Q : Outcome → Type 0 = λ x. x ≡ c.in_err-command.field-0.0 in
     if_err c.from_residual.result Q P (λ x e. let s : c.in_err-command.field-0.0 ≡ x = sym e in subst P s stops) c.from_residual.ensures.1
 
-pub total-requires : goal.total-requires
-total-requires g c = c.in_ok-sorts.ensures.few
+pub total-total-requires : goal.total-total-requires
+total-total-requires g c = c.in_ok-sorts.ensures.few
 
 pub returns-clause-ok : goal.returns-clause-ok
 returns-clause-ok g c =
     let r = reading g.F.Shelf.content g.F.Shelf.faults c.args.shelf.now c.load_command.new.shelf in
-    count_done c.args.basis r c.args.file.now c.in_ok-command.command c.in_ok-sorts.sorts c.in_ok-command.ensures.ok c.in_ok-sorts.ensures c.total.result c.total.ensures
+    count_done c.args.basis r c.args.file.now c.in_ok-command.command c.in_ok-sorts.sorts c.in_ok-command.ensures.ok c.in_ok-sorts.ensures c.total-total.result c.total-total.ensures

@@ -1,7 +1,7 @@
 use Rattle.std.proofs.Common.{◌≡◌, Some, None, sym, subst, ap}
 use Rattle.replay.specs.Probes.{views_of}
 use Rattle.di_top.specs.declared.outcome.Stop.{Stop}
-use Rattle.di_top.specs.Requests.{CompileWide}
+use Rattle.di_top.specs.Requests.{Compile}
 use Rattle.di_top.specs.Calls.{reading}
 use Rattle.di_top.specs.Ends.{Halts}
 use Rattle.di_top.specs.Plans.{names_in}
@@ -11,9 +11,9 @@ use Rattle.di_top.proofs.plan.decide_compile.Goals as goal
 pub returns-in_err-plan-clause-stop : goal.returns-in_err-plan-clause-stop
 returns-in_err-plan-clause-stop g c =
     let r = reading g.F.Shelf.content g.F.Shelf.faults c.args.shelf.now c.plan_compile.new.shelf in
-    let halts : Halts (Some (CompileWide c.args.file.now)) r c.in_err-plan.field-0.0 (names_in None) =
+    let halts : Halts (Some (Compile c.args.basis c.args.file.now)) r c.in_err-plan.field-0.0 (names_in None) =
     record { stops = c.in_err-plan.ensures.stop.0; gives = c.in_err-plan.ensures.stop.1; named = tt } in
-    let P : Stop → Type 0 = λ x. Halts (Some (CompileWide c.args.file.now)) r x.outcome (names_in x.net) in
+    let P : Stop → Type 0 = λ x. Halts (Some (Compile c.args.basis c.args.file.now)) r x.outcome (names_in x.net) in
     let Q : Stop → Type 0 = λ x. x ≡ record { outcome = c.in_err-plan.field-0.0; net = None } in
     if_err c.from_residual.result Q P (λ x e. let s : record { outcome = c.in_err-plan.field-0.0; net = None } ≡ x = sym e in subst P s halts)
     c.from_residual.ensures.1
