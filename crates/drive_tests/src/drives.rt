@@ -103,6 +103,6 @@ fn asked_counts_the_tests(rt: HostRuntime) -> Result<(), Fail> {
     for event in &others {
         assert!(rt; !all_enabled(&mut replay, &[*event]));
     }
-    assert_eq!(rt; replay.asked(), before + 8);
+    assert_eq!(rt; replay.asked(), before.saturating_add(8));
     Ok(())
 }
