@@ -23,7 +23,8 @@ use Rattle.place_graph.specs.Style.{style_of}
 use Rattle.place_graph.specs.Sums.{outs_at, givers, all_acts, joins, calls, shows, first_act, spreads, is_one, is_straight, directs, of_style, counted}
 use Rattle.place_graph.proofs.LegBounds.{legs_marks}
 use Rattle.place_graph.proofs.Ranges.{all_among}
-use Rattle.cmd_alone.specs.Alone.{names_in, own_symbols, symbol_at}
+use Rattle.cmd_alone.specs.Alone.{own_symbols, symbol_at}
+use Rattle.cmd_rename.specs.Symbols.{names_in}
 use Rattle.cmd_alone.proofs.Ranks.{got_in, rank_got}
 use Rattle.cmd_alone.proofs.Valid.{symbols_below}
 use Rattle.cmd_alone.proofs.Back.{numbered_alone, own_in}

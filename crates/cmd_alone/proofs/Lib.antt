@@ -1,5 +1,4 @@
 pub mod Ranks
-pub mod Named
 pub mod Valid
 pub mod Back
 pub mod Traces

@@ -18,8 +18,8 @@ use Rattle.cmd_rename.proofs.Laws.{Agree, ren_agree, proc_kept, body_kept, proc_
 use Rattle.cmd_rename.proofs.Orders.{in_each}
 use Rattle.cmd_rename.proofs.Numbering.{renumbered_numbered, symbols_distinct, all_each}
 use Rattle.place_graph.proofs.LegBounds.{all_front, all_back}
-use Rattle.cmd_alone.specs.Alone.{names_in}
-use Rattle.cmd_alone.proofs.Named.{names_distinct, names_formed}
+use Rattle.cmd_rename.specs.Symbols.{names_in}
+use Rattle.cmd_rename.proofs.SymbolNames.{names_distinct, names_formed}
 
 -- ---- the process at a place
 pub got : (P : Proc → Type 0) (ps : List Proc) (i : ℕ) (p : Proc) → AllByRecursion P ps → slice_get ps i ≡ Some p → P p

@@ -1,8 +1,8 @@
 -- A process of a command as a command of its own.
-use Rattle.std.specs.Prelude.{◌≡◌, ℕ, List, [], ◌∷◌, map, get_or, slice_get, Some}
+use Rattle.std.specs.Prelude.{◌≡◌, ℕ, List, [], ◌∷◌, get_or, slice_get, Some}
 use Rattle.cmd_tree.specs.declared.tree.Proc.{Proc}
 use Rattle.cmd_tree.specs.declared.command.Command.{Command}
-use Rattle.cmd_rename.specs.Symbols.{symbols_of, rank, renumbered}
+use Rattle.cmd_rename.specs.Symbols.{names_in, symbols_of, rank, renumbered}
 
 -- the symbols of a process, in order of first occurrence
 abbrev pub own_symbols : Proc → List ℕ
@@ -14,10 +14,6 @@ number_in p a = rank (own_symbols p) a
 
 abbrev pub symbol_at : Proc → ℕ → ℕ
 symbol_at p k = get_or (own_symbols p) k 0
-
--- the names of these symbols
-abbrev pub names_in : List (List ℕ) → List ℕ → List (List ℕ)
-names_in names symbols = map (λ a. get_or names a []) symbols
 
 -- d is the process at place i of c by itself: its symbols are numbered by first occurrence, and keep their names
 pub record IsAlone (c : Command) (i : ℕ) (d : Command) : Type 0 where

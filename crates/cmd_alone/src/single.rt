@@ -1,14 +1,12 @@
 //! The command of one process.
 ghost use Rattle.std.specs.Prelude.{◌≡◌, ℕ, ◌<◌, ◌^◌, [], ◌∷◌, IsTrue, IfOk, get_or, length};
-ghost use Rattle.std.specs.List.{IsDistinct};
-ghost use Rattle.std.specs.Str.{bytes_eq};
 ghost use Rattle.cmd_tree.specs.Lists.{is_in};
 ghost use Rattle.cmd_rename.specs.Symbols.{put_each, symbols_of, rank};
 ghost use Rattle.cmd_rename.specs.Table.{number_by};
-ghost use Rattle.cmd_alone.specs.Alone.{names_in, IsAlone};
+ghost use Rattle.cmd_alone.specs.Alone.{IsAlone};
 
-use cmd_rename::{Table, list_symbol, proc_symbols, rename_proc};
-use cmd_tree::{Command, Name, NameSet, Proc};
+use cmd_rename::{Table, list_symbol, proc_symbols, rename_proc, symbol_names};
+use cmd_tree::{Command, Proc};
 use sqlite_items::Items;
 use std::alloc::{AllocError, Global};
 
@@ -20,7 +18,7 @@ pub fn alone(alloc: Global, command: &Command, index: usize) -> Result<Command, 
 {
     let process = &command.procs.as_slice()[index];
     let symbols = own_symbols(alloc, process)?;
-    let names = symbol_names(alloc, &command.names, symbols.as_slice())?;
+    let names = symbol_names(alloc, command.names.as_slice(), symbols.as_slice())?;
     let ranks = ranks_of(alloc, symbols.as_slice())?;
     let copy = rename_proc(alloc, process, &ranks)?;
     let mut procs = Items::new(alloc);
@@ -47,31 +45,6 @@ fn each_once(alloc: Global, places: &[u32]) -> Result<Vec<u32>, AllocError>
         list_symbol(&mut symbols, &mut listed, *symbol)?;
     }
     Ok(symbols)
-}
-
-/// The names of these symbols, which are different.
-fn symbol_names(alloc: Global, names: &NameSet, symbols: &[u32]) -> Result<NameSet, AllocError>
-    requires { IsDistinct bytes_eq (names_in names.now symbols.now) }
-    ensures { IfOk result (λ set. set ≡ names_in names.now symbols.now) }
-{
-    let mut set = NameSet::new(alloc);
-    for symbol in symbols {
-        let name = copy_name(alloc, names, *symbol)?;
-        set.insert(name)?;
-    }
-    Ok(set)
-}
-
-fn copy_name(alloc: Global, names: &NameSet, symbol: u32) -> Result<Name, AllocError>
-    ensures { IfOk result (λ name. name ≡ get_or names.now symbol []) }
-{
-    match names.as_slice().get(symbol as usize) {
-        Some(name) => {
-            let copy = name.clone()?;
-            Ok(copy)
-        }
-        None => Name::new(alloc, &[]),
-    }
 }
 
 /// A table of the ranks of these symbols.

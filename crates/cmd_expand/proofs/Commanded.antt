@@ -18,11 +18,12 @@ use Rattle.cmd_text.specs.File.{Use}
 use Rattle.cmd_rename.specs.Renaming.{ren_proc, ren_all}
 use Rattle.cmd_rename.specs.Symbols.{symbols_in, symbols_of, rank, renumbered}
 use Rattle.cmd_rename.proofs.Laws.{proc_kept, body_kept, proc_brackets, proc_symbols, ren_length, ren_places}
+use Rattle.cmd_rename.proofs.SymbolNames.{names_distinct, names_formed}
 use Rattle.cmd_rename.proofs.Numbering.{renumbered_numbered, symbols_distinct, all_each}
 use Rattle.cmd_expand.specs.Names.{number, with_name, with_pairs, with_factor, with_factors, with_sentences, all_names, IsIn, AreIn, IsFactorIn}
 use Rattle.cmd_expand.specs.Pairs.{pair_of, renamed, first_fault, Refused, TooManySymbols, TooManyProcs, TooManyPlaces, DefinedTwice}
 use Rattle.cmd_expand.specs.Expansion.{Known, found, name_of, followed, renamed_by, limited, within, and_then, defined_by, use_of, factor, weave, body, definition, last_of}
-use Rattle.cmd_expand.specs.Mirror.Main.{names_in}
+use Rattle.cmd_rename.specs.Symbols.{names_in}
 use Rattle.cmd_expand.proofs.Found.{place, place_is}
 use Rattle.cmd_expand.proofs.FileRead.{GoodProc, AreNames, GoodFactor, GoodSentence, GoodFile, distinct_with}
 
@@ -217,42 +218,6 @@ module _ (all : List (List ℕ)) (file : List Sentence) where
       (all_joined (IsGoodKnown (length all)) known (defined_by (name_of s.name) qs ∷ []) h (definition_by n known s qs (list_any (λ k. bytes_eq (name_of s.name) k.name) known) (λ b. (body_sound n known s qs l h g.0 b).0) d, tt)) g.1 k) e
 
 -- ---- the command
-distinct_at : (ns : List (List ℕ)) (i j : ℕ) → IsDistinct bytes_eq ns → i < length ns → j < length ns → i ≢ j → bytes_eq (get_or ns i []) (get_or ns j []) ≡ false
-unfolding IsDistinct
-distinct_at [] i j h l k d = absurd (omega (arith, l))
-distinct_at (n ∷ ns) zero zero h l k d = absurd (d refl)
-distinct_at (n ∷ ns) zero (suc j) h l k d = one ns j h.0 (omega (arith, k))
-  where
-    one : (ms : List (List ℕ)) (i : ℕ) → AllByRecursion (λ y. bytes_eq n y ≡ false) ms → i < length ms → bytes_eq n (get_or ms i []) ≡ false
-    one [] i a f = absurd (omega (arith, f))
-    one (m ∷ ms) zero a f = a.0
-    one (m ∷ ms) (suc i) a f = one ms i a.1 (omega (arith, f))
-distinct_at (n ∷ ns) (suc i) zero h l k d = nat_list_eq_equiv.symm (get_or ns i []) n ∙ one ns i h.0 (omega (arith, l))
-  where
-    one : (ms : List (List ℕ)) (i : ℕ) → AllByRecursion (λ y. bytes_eq n y ≡ false) ms → i < length ms → bytes_eq n (get_or ms i []) ≡ false
-    one [] i a f = absurd (omega (arith, f))
-    one (m ∷ ms) zero a f = a.0
-    one (m ∷ ms) (suc i) a f = one ms i a.1 (omega (arith, f))
-distinct_at (n ∷ ns) (suc i) (suc j) h l k d = distinct_at ns i j h.1 (omega (arith, l)) (omega (arith, k)) (λ q. d (ap suc q))
-
-apart_names : (ns : List (List ℕ)) (x : ℕ) (xs : List ℕ) → IsDistinct bytes_eq ns → x < length ns → AllByRecursion (λ a. a < length ns) xs → AllByRecursion (λ y. nat_eq x y ≡ false) xs → AllByRecursion (λ y. bytes_eq (get_or ns x []) y ≡ false) (names_in ns xs)
-apart_names ns x [] h l b d = tt
-apart_names ns x (y ∷ xs) h l b d = (distinct_at ns x y h l b.0 (λ q. true≢false (sym (eq-eqb x y q) ∙ d.0)), apart_names ns x xs h l b.1 d.1)
-
-names_distinct : (ns : List (List ℕ)) (xs : List ℕ) → IsDistinct bytes_eq ns → AllByRecursion (λ a. a < length ns) xs → IsDistinct nat_eq xs → IsDistinct bytes_eq (names_in ns xs)
-unfolding IsDistinct
-names_distinct ns [] h b d = tt
-names_distinct ns (x ∷ xs) h b d = (apart_names ns x xs h b.0 b.1 d.0, names_distinct ns xs h b.1 d.1)
-
-formed_at : (ns : List (List ℕ)) (i : ℕ) → AllByRecursion (λ n. IsTrue (is_name n)) ns → i < length ns → IsTrue (is_name (get_or ns i []))
-formed_at [] i h l = absurd (omega (arith, l))
-formed_at (n ∷ ns) zero h l = h.0
-formed_at (n ∷ ns) (suc i) h l = formed_at ns i h.1 (omega (arith, l))
-
-names_formed : (ns : List (List ℕ)) (xs : List ℕ) → AllByRecursion (λ n. IsTrue (is_name n)) ns → AllByRecursion (λ a. a < length ns) xs → AllByRecursion (λ n. IsTrue (is_name n)) (names_in ns xs)
-names_formed ns [] h b = tt
-names_formed ns (x ∷ xs) h b = (formed_at ns x h b.0, names_formed ns xs h b.1)
-
 symbols_below : (n : ℕ) (ps : List Proc) → AllByRecursion (GoodProc n) ps → AllByRecursion (λ a. a < n) (symbols_in (marks_of_all ps))
 symbols_below n [] h = tt
 symbols_below n (p ∷ ps) h = subst (λ (xs : List ℕ). AllByRecursion (λ a. a < n) xs) (sym (map-append (λ (m : Mark). m.sym.0) (marks_of_proc p) (marks_of_all ps)))

@@ -1,21 +1,20 @@
 //! From a command file that was read to the command of `main`.
 ghost use Rattle.std.specs.Prelude.{◌≡◌, ◌<◌, ◌^◌, List, [], length, get_or, Ok, Err, IfOk, IfErr};
-ghost use Rattle.std.specs.List.{IsDistinct};
-ghost use Rattle.std.specs.Str.{bytes_eq};
 ghost use Rattle.cmd_tree.specs.declared.tree.Proc.{Proc};
 ghost use Rattle.std.specs.Option.{IfSome};
 ghost use Rattle.cmd_rename.specs.Symbols.{counted};
 ghost use Rattle.cmd_expand.specs.Files.{IsFile};
 ghost use Rattle.cmd_expand.specs.Expansion.{expansion, refused_of};
 ghost use Rattle.cmd_expand.specs.Mirror.Plan.{AreLines};
-ghost use Rattle.cmd_expand.specs.Mirror.Main.{IsMain, IsMeant, names_in};
+ghost use Rattle.cmd_expand.specs.Mirror.Main.{IsMain, IsMeant};
 
 use crate::names::list_names;
 use crate::plan::{Plan, Tables, define, resolve};
 use crate::refusal::ExpandRefusal;
 use crate::unfolding::unfold;
+use cmd_rename::symbol_names;
 use cmd_text::{File, NameTable};
-use cmd_tree::{Command, Name, NameSet};
+use cmd_tree::Command;
 use sqlite_items::Items;
 use std::alloc::{AllocError, Global};
 
@@ -63,7 +62,7 @@ fn command_of(alloc: Global, plan: &mut Plan, of: usize) -> Result<Command, Allo
 {
     let line = &plan.lines[of];
     let numbers = first_numbers(alloc, line.symbols.len())?;
-    let names = symbol_names(alloc, &plan.names, line.symbols.as_slice())?;
+    let names = symbol_names(alloc, plan.names.as_slice(), line.symbols.as_slice())?;
     let shape = line.shape;
     let mut procs = Items::new(alloc);
     unfold(
@@ -87,29 +86,4 @@ fn first_numbers(alloc: Global, count: usize) -> Result<Vec<u32>, AllocError>
         numbers.push(index as u32)?;
     }
     Ok(numbers)
-}
-
-/// The names of these symbols, which are different.
-fn symbol_names(alloc: Global, names: &NameTable, symbols: &[u32]) -> Result<NameSet, AllocError>
-    requires { IsDistinct bytes_eq (names_in names.now symbols.now) }
-    ensures { IfOk result (λ set. set ≡ names_in names.now symbols.now) }
-{
-    let mut set = NameSet::new(alloc);
-    for symbol in symbols {
-        let name = copy_name(alloc, names, *symbol)?;
-        set.insert(name)?;
-    }
-    Ok(set)
-}
-
-fn copy_name(alloc: Global, names: &NameTable, symbol: u32) -> Result<Name, AllocError>
-    ensures { IfOk result (λ name. name ≡ get_or names.now symbol []) }
-{
-    match names.as_slice().get(symbol as usize) {
-        Some(name) => {
-            let copy = name.clone()?;
-            Ok(copy)
-        }
-        None => Name::new(alloc, &[]),
-    }
 }

@@ -134,13 +134,13 @@ abbrev pub Row : Type 0
 Row = Vec ℕ Global
 
 module _ (rows : List Row) (s : ℕ) (row : Row) where
-  set_here : s < length rows → row_at (map (λ (r : Row). r.items) (set rows s row)) s ≡ row.items
+  pub set_here : s < length rows → row_at (map (λ (r : Row). r.items) (set rows s row)) s ≡ row.items
   set_here h =
       ap (λ xs. row_at xs s) (map-set (λ (r : Row). r.items) rows s row)
       ∙ get_or-set_same (map (λ (r : Row). r.items) rows) s row.items []
       (omega (arith, h, length-map rows (λ (r : Row). r.items)))
 
-  set_other : (a : ℕ) → a ≢ s → row_at (map (λ (r : Row). r.items) (set rows s row)) a
+  pub set_other : (a : ℕ) → a ≢ s → row_at (map (λ (r : Row). r.items) (set rows s row)) a
       ≡ row_at (map (λ (r : Row). r.items) rows) a
   set_other a h =
       ap (λ xs. row_at xs a) (map-set (λ (r : Row). r.items) rows s row)

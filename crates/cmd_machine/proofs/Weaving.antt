@@ -113,7 +113,7 @@ user_in k (q ∷ ps) a (suc n) p e h = by (has_symbol (marks_of_proc q) a)
     by true o = inr o
     by false o = o
 
-user_zero : (ps : List Proc) (a i : ℕ) (p : Proc) → slice_get ps i ≡ Some p
+pub user_zero : (ps : List Proc) (a i : ℕ) (p : Proc) → slice_get ps i ≡ Some p
     → IsTrue (has_symbol (marks_of_proc p) a) → OneOf (users_from 0 ps a) i
 user_zero ps a i p e h = subst (OneOf (users_from 0 ps a)) (from_none i) (user_in 0 ps a i p e h)
 

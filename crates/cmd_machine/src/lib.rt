@@ -3,7 +3,7 @@
 
 mod laws;
 mod position;
-mod users;
+pub mod users;
 mod walker;
 
 pub use laws::admitted_is_lawful;

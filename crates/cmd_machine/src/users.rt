@@ -1,26 +1,38 @@
-//! Which processes have each symbol.
+//! Which processes have each symbol: rows of numbers.
 ghost use Rattle.std.specs.Prelude.{◌≡◌, ℕ, ◌<◌, [], ◌∷◌, ◌++◌, List, length, map, if◌then◌else◌, IfOk, OnOk};
 ghost use Rattle.std.specs.List.{AllByRecursion};
 ghost use Rattle.cmd_tree.specs.Lists.{is_in};
-ghost use Rattle.cmd_machine.specs.Mirror.Walkers.{row_at};
+ghost use Rattle.cmd_machine.specs.Mirror.Walkers.{row_at, users_from};
 
-use cmd_tree::Sym;
+use cmd_rename::proc_symbols;
+use cmd_tree::Proc;
 use std::alloc::{AllocError, Global};
 
-/// The processes in the row of the symbol.
-pub(crate) fn users_of(users: &[Vec<usize>], symbol: Sym) -> &[usize]
-    ensures { result.now ≡ row_at (map (λ row. row.items) users.now) symbol.0 }
+/// The numbers in the row of this index: none past the last row.
+pub fn row_of(rows: &[Vec<usize>], index: usize) -> &[usize]
+    ensures { result.now ≡ row_at (map (λ row. row.items) rows.now) index }
 {
-    let index = symbol.0 as usize;
-    if index < users.len() {
-        users[index].as_slice()
+    if index < rows.len() {
+        rows[index].as_slice()
     } else {
         &[]
     }
 }
 
-/// Puts the process at the end of the rows of these symbols, once each. All others there come before it.
-pub(crate) fn note(
+/// A row for each symbol: the numbers of the processes that have it, in order.
+pub fn users_by_symbol(alloc: Global, procs: &[Proc]) -> Result<Vec<Vec<usize>>, AllocError>
+    ensures { IfOk result (λ users. (a : ℕ) → row_at (map (λ row. row.items) users.items) a ≡ users_from 0 procs.now a) }
+{
+    let mut users = Vec::new(alloc);
+    for (number, process) in procs.iter().enumerate() {
+        let symbols = proc_symbols(alloc, process)?;
+        note(alloc, &mut users, symbols.as_slice(), number)?;
+    }
+    Ok(users)
+}
+
+// Puts the process at the end of the rows of these symbols, once each. All others there come before it.
+fn note(
     alloc: Global,
     users: &mut Vec<Vec<usize>>,
     symbols: &[u32],
@@ -38,8 +50,8 @@ pub(crate) fn note(
     Ok(())
 }
 
-// Makes rows up to that of this index, which are empty.
-fn grow(alloc: Global, users: &mut Vec<Vec<usize>>, index: usize) -> Result<(), AllocError>
+/// Makes empty rows up to that of this index.
+pub fn grow(alloc: Global, users: &mut Vec<Vec<usize>>, index: usize) -> Result<(), AllocError>
     ensures room { OnOk result (index < length users.new.items) }
     ensures same { (a : ℕ) → row_at (map (λ row. row.items) users.new.items) a
         ≡ row_at (map (λ row. row.items) users.old.items) a }

@@ -8,8 +8,7 @@ ghost use Rattle.cmd_machine.specs.Mirror.Positions as position;
 ghost use Rattle.cmd_machine.specs.Mirror.Walkers.{users_from, AllGoOn, StandEach, Stands};
 
 use crate::position::Position;
-use crate::users::{note, users_of};
-use cmd_rename::proc_symbols;
+use crate::users::{row_of, users_by_symbol};
 use cmd_tree::{Command, Sym};
 use std::alloc::{AllocError, Global};
 
@@ -27,15 +26,10 @@ impl Walker {
         requires { Admitted command.now.procs }
         ensures { IfOk result (λ walker. Stands command.now.procs walker []) }
     {
-        let mut positions = Vec::new(alloc);
-        let mut users = Vec::new(alloc);
-        for process in command.procs.as_slice() {
-            let symbols = proc_symbols(alloc, process)?;
-            note(alloc, &mut users, symbols.as_slice(), positions.len())?;
-            let position = Position::new(alloc, process)?;
-            positions.push(position)?;
-        }
-        Ok(Walker { positions, users })
+        Ok(Walker {
+            positions: positions_of(alloc, command)?,
+            users: users_by_symbol(alloc, command.procs.as_slice())?,
+        })
     }
 
     /// Whether the trace so far, followed by the symbol, is a trace of the command. A symbol that is not
@@ -44,7 +38,7 @@ impl Walker {
         ensures { (ps : List Proc) (t : List ℕ) → Stands ps self.now t
             → (IsTrue result ↔ Trace ps (t ++ symbol.0 ∷ [])) }
     {
-        let users = users_of(self.users.as_slice(), symbol);
+        let users = row_of(self.users.as_slice(), symbol.0 as usize);
         !users.is_empty() && all_can(self.positions.as_slice(), users, symbol)
     }
 
@@ -58,11 +52,24 @@ impl Walker {
     {
         let can = self.can(symbol);
         if can {
-            let users = users_of(self.users.as_slice(), symbol);
+            let users = row_of(self.users.as_slice(), symbol.0 as usize);
             step_all(self.positions.as_mut_slice(), users, symbol);
         }
         can
     }
+}
+
+// The position of each process at the start.
+fn positions_of(alloc: Global, command: &Command) -> Result<Vec<Position>, AllocError>
+    requires { Admitted command.now.procs }
+    ensures { IfOk result (λ positions. StandEach command.now.procs positions.items []) }
+{
+    let mut positions = Vec::new(alloc);
+    for process in command.procs.as_slice() {
+        let position = Position::new(alloc, process)?;
+        positions.push(position)?;
+    }
+    Ok(positions)
 }
 
 // Whether all of these processes go on by the symbol.

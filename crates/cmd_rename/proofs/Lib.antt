@@ -1,6 +1,7 @@
 pub mod Entries
-pub mod Trees
 pub mod Laws
-pub mod Orders
-pub mod Numbering
 pub mod Numbered
+pub mod Numbering
+pub mod Orders
+pub mod SymbolNames
+pub mod Trees

@@ -1,5 +1,5 @@
 -- The symbols of processes in order of first occurrence, and processes with their symbols numbered so.
-use Rattle.std.specs.Prelude.{ℕ, zero, suc, nat_eq, List, [], ◌∷◌, ◌++◌, map, if◌then◌else◌}
+use Rattle.std.specs.Prelude.{ℕ, zero, suc, nat_eq, List, [], ◌∷◌, ◌++◌, map, get_or, if◌then◌else◌}
 use Rattle.cmd_tree.specs.declared.tree.Mark.{Mark}
 use Rattle.cmd_tree.specs.declared.tree.Proc.{Proc}
 use Rattle.cmd_tree.specs.Limits.{marks_of_all}
@@ -35,3 +35,7 @@ renumbered ps = ren_all (rank (symbols_of ps)) ps
 abbrev pub counted : ℕ → List ℕ
 counted zero = []
 counted (suc n) = counted n ++ n ∷ []
+
+-- the names of these symbols
+abbrev pub names_in : List (List ℕ) → List ℕ → List (List ℕ)
+names_in names symbols = map (λ a. get_or names a []) symbols

@@ -7,3 +7,8 @@ pub mod RingSteps
 pub mod WeaveCounts
 pub mod ReadableGraphs
 pub mod TwoWayBound
+pub mod WaitLayers
+pub mod WaitShapes
+pub mod AddSteps
+pub mod WaitSteps
+pub mod Countable

@@ -47,7 +47,8 @@ use Rattle.di_grammar.specs.Outputs.{out_of}
 use Rattle.di_grammar.specs.Sums.{gift, loan, all_of, of_several, plain_ring, release_ring, after_input, one_input, each_once, body_ring, ring_of_parts, ring, ring_or_none, rings, grants, made, standing, meeting, woven}
 use Rattle.count_sum.specs.Counts.{all_sorts}
 use Rattle.count_sum.proofs.SortCounts.{all_both, so_many_all}
-use Rattle.count_sum.proofs.WaitBound.{less_one, half_near, layers_bounded}
+use Rattle.shape_parts.proofs.Layered.{half_near}
+use Rattle.count_sum.proofs.WaitBound.{less_one, layers_bounded, filter_low, range_long}
 use Rattle.count_sum.proofs.RingSteps.{all_long}
 
 -- ---- sizes
@@ -99,10 +100,6 @@ less_most (suc zero) k h some = some
 less_most (suc (suc n)) k h some = omega (arith, h)
 
 -- ---- a SEQ
-
-range_long : (a n : ℕ) → length (range_with_len a n) ≡ n
-range_long a zero = refl
-range_long a (suc n) = omega (arith, range_long (a + 1) n)
 
 column_low : (g : ℕ) → 1 ≤ g → all_sorts (wait_sum g 1 (one_column g)) + 2 * g ≤ 3 * (g * g)
 column_low g some =
@@ -162,7 +159,7 @@ mutual
   item_some (TBurst ms) h = omega (arith, h)
   item_some (TAlt ss) h = omega (arith, h.0, alternatives ss h.1)
 
-  alternatives : (ss : TSeqs) → AreSeqs ss → count_of ss ≤ places_among ss
+  pub alternatives : (ss : TSeqs) → AreSeqs ss → count_of ss ≤ places_among ss
   alternatives Stop h = omega arith
   alternatives (Or s ss) h = omega (arith, full_some s h.0, alternatives ss h.1)
 
@@ -185,7 +182,7 @@ once_low (x ∷ xs) = by (is_in x xs) (once_low xs)
     by false h = omega (arith, h)
 
 -- 2^13 places at most
-abbrev most : ℕ
+abbrev pub most : ℕ
 most = 8192
 
 abbrev of_ring : ℕ
@@ -213,7 +210,7 @@ body_low (Then (TAlt ts) (Then (TBurst ms) s)) h few = omega arith
 body_low (Then (TBurst ns) (Then (TAlt ss) (Then j s))) h few = omega arith
 body_low (Then (TAlt ts) (Then (TAlt ss) (Then j s))) h few = omega arith
 
-full_seq : (s : TSeq) → IsFull s → IsSeq s
+pub full_seq : (s : TSeq) → IsFull s → IsSeq s
 full_seq Done h = absurd h
 full_seq (Then i s) h = h
 
@@ -267,14 +264,6 @@ sizes_each f g b (x ∷ xs) h low = omega (arith, low x h.0, sizes_each f g b xs
 all_weaker : {A : Type 0} (f g : A → ℕ) (b c : ℕ) (xs : List A) → AllByRecursion (λ x. f x ≤ b) xs → ((x : A) → f x ≤ b → g x ≤ c) → AllByRecursion (λ x. g x ≤ c) xs
 all_weaker f g b c [] h low = tt
 all_weaker f g b c (x ∷ xs) h low = (low x h.0, all_weaker f g b c xs h.1 low)
-
-filter_low : {A : Type 0} (test : A → Bool) (xs : List A) → length (filter test xs) ≤ length xs
-filter_low test [] = omega arith
-filter_low test (x ∷ xs) = by (test x) (filter_low test xs)
-  where
-    by : (b : Bool) → length (filter test xs) ≤ length xs → length (if b then x ∷ filter test xs else filter test xs) ≤ length (x ∷ xs)
-    by true h = omega (arith, h)
-    by false h = omega (arith, h)
 
 gate_low : (es : List ℕ) → size (gate es) ≤ 1
 gate_low [] = one_size Sources

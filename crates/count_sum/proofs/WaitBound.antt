@@ -14,6 +14,7 @@ use Rattle.basic_kinds.specs.Shapes.{IsShape}
 use Rattle.basic_kinds.specs.ShapeParts.{label, part_at, part_names, part_rows, part_columns, local_part, local_crossing, half, first_rows, last_rows, outer, met, has_row, has_column, exchanged, exchanged_from}
 use Rattle.basic_kinds.specs.Sums.{so_many, sum_over, group_sum, layer_sum, part_sum, sum_of_part, layers_sum, wait_sum}
 use Rattle.count_sum.specs.Counts.{all_sorts}
+use Rattle.shape_parts.proofs.Layered.{half_near}
 use Rattle.count_sum.proofs.SortCounts.{all_both, so_many_all}
 
 abbrev Sum : Type 0
@@ -22,7 +23,7 @@ Sum = ℕ → ℕ → List (ℕ × ℕ) → Sort → ℕ
 abbrev bit : Bool → ℕ
 bit b = if b then 1 else 0
 
-not_less : (m n : ℕ) → nat_lt m n ≡ false → n ≤ m
+pub not_less : (m n : ℕ) → nat_lt m n ≡ false → n ≤ m
 not_less m n e = grind (arith, nat_tests)
 
 -- ---- one less, and one at least
@@ -160,15 +161,15 @@ chosen_long test (i ∷ is) = by (test i) (chosen_long test is)
     by true e = omega (arith, e)
     by false e = omega (arith, e)
 
-chosen_low : (test : ℕ → Bool) (is : List ℕ) → length (filter test is) ≤ length is
-chosen_low test [] = omega arith
-chosen_low test (i ∷ is) = by (test i) (chosen_low test is)
+pub filter_low : {A : Type 0} (test : A → Bool) (xs : List A) → length (filter test xs) ≤ length xs
+filter_low test [] = omega arith
+filter_low test (x ∷ xs) = by (test x) (filter_low test xs)
   where
-    by : (b : Bool) → length (filter test is) ≤ length is → length (if b then i ∷ filter test is else filter test is) ≤ length (i ∷ is)
+    by : (b : Bool) → length (filter test xs) ≤ length xs → length (if b then x ∷ filter test xs else filter test xs) ≤ length (x ∷ xs)
     by true low = omega (arith, low)
     by false low = omega (arith, low)
 
-range_long : (a n : ℕ) → length (range_with_len a n) ≡ n
+pub range_long : (a n : ℕ) → length (range_with_len a n) ≡ n
 range_long a zero = refl
 range_long a (suc n) = omega (arith, range_long (a + 1) n)
 
@@ -192,7 +193,7 @@ met_low k cols group = omega (
   keyed_low (λ p. p.1) (range_with_len 0 cols) (λ v. range_once v 0 cols) group,
 )
 
-outer_low : (h cols : ℕ) (cross : List (ℕ × ℕ)) → length (outer h cols cross) ≤ length (first_rows h cross) + length (last_rows h cross)
+pub outer_low : (h cols : ℕ) (cross : List (ℕ × ℕ)) → length (outer h cols cross) ≤ length (first_rows h cross) + length (last_rows h cross)
 outer_low h cols cross = omega (
   arith,
   length-append (met 0 cols (first_rows h cross)) (met 1 cols (last_rows h cross)),
@@ -200,7 +201,7 @@ outer_low h cols cross = omega (
   met_low 1 cols (last_rows h cross),
 )
 
-rows_both : (h : ℕ) (cross : List (ℕ × ℕ)) → length (first_rows h cross) + length (last_rows h cross) ≡ length cross
+pub rows_both : (h : ℕ) (cross : List (ℕ × ℕ)) → length (first_rows h cross) + length (last_rows h cross) ≡ length cross
 rows_both h cross = omega (
   arith,
   length-map {B = ℕ × ℕ} (filter (λ (p : ℕ × ℕ). not (nat_lt p.0 h)) cross) (λ (p : ℕ × ℕ). (p.0 - h, p.1)),
@@ -219,7 +220,7 @@ exchanged_long j (suc k) cross =
       ap (λ n. sum_over (λ i. length (with_key (λ p. p.1) cross i)) (range_with_len n k)) next,
     )
 
-exchanged_low : (cols : ℕ) (cross : List (ℕ × ℕ)) → length (exchanged cols cross) ≤ length cross
+pub exchanged_low : (cols : ℕ) (cross : List (ℕ × ℕ)) → length (exchanged cols cross) ≤ length cross
 exchanged_low cols cross = omega (arith, exchanged_long 0 cols cross, keyed_low (λ p. p.1) (range_with_len 0 cols) (λ v. range_once v 0 cols) cross)
 
 parts_low : (rows : ℕ) (cross : List (ℕ × ℕ)) → sum_over (λ i. length (part_at rows cross i)) (part_names rows cross) ≤ length cross
@@ -231,11 +232,6 @@ part_some : (rows : ℕ) (cross : List (ℕ × ℕ)) (i : ℕ) → Among i (part
 part_some rows cross i a =
     let any : list_any (λ (p : ℕ × ℕ). nat_eq (label rows cross p.0) i) cross ≡ true = among_passes (λ i. list_any (λ (p : ℕ × ℕ). nat_eq (label rows cross p.0) i) cross) (range_with_len 0 rows) i a in
     omega (arith, some_kept (λ p. nat_eq (label rows cross p.0) i) cross, ap bit any)
-
-pub half_near : (n : ℕ) → (n ≤ 2 * half n) × (2 * half n ≤ n + 1)
-half_near zero = (omega arith, omega arith)
-half_near (suc zero) = (omega arith, omega arith)
-half_near (suc (suc n)) = let (low, high) = half_near n in (omega (arith, low), omega (arith, high))
 
 -- ---- by layers
 
@@ -308,8 +304,8 @@ layers_bounded (suc n) rows cols cross =
     let each : (i : ℕ) → Among i names → all_sorts (sum_of_part (layers_sum n) rows cols (part i)) + (size i + size i) ≤ size i * m + (size i * m + size i * m) = λ i a.
     let rs : ℕ = length (part_rows rows (part i)) in
     let cs : ℕ = length (part_columns cols (part i)) in
-    let fewer_rows : rs ≤ rows = omega (arith, chosen_low (has_row (part i)) (range_with_len 0 rows), range_long 0 rows) in
-    let fewer_cols : cs ≤ cols = omega (arith, chosen_low (has_column (part i)) (range_with_len 0 cols), range_long 0 cols) in
+    let fewer_rows : rs ≤ rows = omega (arith, filter_low (has_row (part i)) (range_with_len 0 rows), range_long 0 rows) in
+    let fewer_cols : cs ≤ cols = omega (arith, filter_low (has_column (part i)) (range_with_len 0 cols), range_long 0 cols) in
     let long : length (local_part (part i)) ≡ size i = length-map (part i) (local_crossing (part i)) in
     let low = part_low (layers_sum n) (layers_bounded n) rs cs (local_part (part i)) (omega (arith, long, part_some rows cross i a)) in
     let grows : size i * (less_one rs * less_one cs) ≤ size i * m = mul-le-mul_left (size i) (product_grows (less_one rs) (less_one cs) (less_one rows) (less_one cols) (less_grows rs rows fewer_rows) (less_grows cs cols fewer_cols)) in

@@ -4,3 +4,5 @@ pub mod Lists
 pub mod Graphs
 pub mod Rings
 pub mod Weaves
+pub mod Adding
+pub mod Waits

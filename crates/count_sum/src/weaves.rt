@@ -15,6 +15,7 @@ use crate::rings::{Ring, ring_for};
 use crate::tally::tally;
 use cmd_rename::{Table, list_symbol, proc_symbols};
 use cmd_tree::{Command, Proc, copy_command};
+use di_grammar::is_grant;
 use net_core::{NodeSpec, directions};
 use std::alloc::{AllocError, Global};
 
@@ -38,48 +39,36 @@ fn own(alloc: Global, process: &Proc, listed: &mut Table) -> Result<Vec<u32>, Al
     once(alloc, places.as_slice(), listed)
 }
 
-/// Those of them that it makes: a grant makes none.
-fn own_made(alloc: Global, process: &Proc, listed: &mut Table) -> Result<Vec<u32>, AllocError>
-    ensures { IfOk result (λ it. it.items ≡ own_made process.now) }
+/// Those of its symbols that it makes: a grant makes none.
+fn made_by<'a>(process: &Proc, own: &'a [u32]) -> &'a [u32]
+    ensures { result.now ≡ (if sums.grants process.now then [] else own.now) }
 {
-    if is_grant(alloc, process)? {
-        Ok(Vec::new(alloc))
-    } else {
-        own(alloc, process, listed)
-    }
-}
-
-/// Whether a process is a grant.
-pub fn is_grant(alloc: Global, process: &Proc) -> Result<bool, AllocError>
-    ensures { IfOk result (λ it. it ≡ sums.grants process.now) }
-{
-    match ring_for(alloc, process)? {
-        None => Ok(false),
-        Some(_) => Ok(true),
-    }
+    if is_grant(process) { &[] } else { own }
 }
 
 /// The symbols of all processes, one process after the other.
-fn all_own(alloc: Global, procs: &[Proc]) -> Result<Vec<u32>, AllocError>
-    ensures { IfOk result (λ it. it.items ≡ joined own procs.now) }
-{
-    let mut listed = Table::new(alloc);
-    let mut numbers = Vec::new(alloc);
-    for process in procs {
-        numbers.append(&mut own(alloc, process, &mut listed)?)?;
-    }
-    Ok(numbers)
+#[derive(Drop)]
+struct Symbols {
+    /// Of each process, each once.
+    own: Vec<u32>,
+    /// Of those that are no grants.
+    made: Vec<u32>,
 }
 
-fn all_made(alloc: Global, procs: &[Proc]) -> Result<Vec<u32>, AllocError>
-    ensures { IfOk result (λ it. it.items ≡ joined own_made procs.now) }
-{
-    let mut listed = Table::new(alloc);
-    let mut numbers = Vec::new(alloc);
-    for process in procs {
-        numbers.append(&mut own_made(alloc, process, &mut listed)?)?;
+impl Symbols {
+    fn of(alloc: Global, procs: &[Proc]) -> Result<Symbols, AllocError>
+        ensures { IfOk result (λ it. (it.own.items ≡ joined own procs.now) × (it.made.items ≡ joined own_made procs.now)) }
+    {
+        let mut listed = Table::new(alloc);
+        let mut all = Vec::new(alloc);
+        let mut made = Vec::new(alloc);
+        for process in procs {
+            let mut numbers = own(alloc, process, &mut listed)?;
+            made.extend_from_slice(made_by(process, numbers.as_slice()))?;
+            all.append(&mut numbers)?;
+        }
+        Ok(Symbols { own: all, made })
     }
-    Ok(numbers)
 }
 
 /// A FORK for an input, to each process that has it; a C for an output, from each that makes it.
@@ -120,8 +109,9 @@ fn symbol_parts(alloc: Global, command: &Command) -> Result<Vec<Part>, AllocErro
     let names = command.names.len();
     let copy = copy_command(alloc, command)?;
     let outs = directions(alloc, &NodeSpec::Cmd(copy))?;
-    let made = tally(alloc, all_made(alloc, procs)?.as_slice(), names)?;
-    let standing = tally(alloc, all_own(alloc, procs)?.as_slice(), names)?;
+    let symbols = Symbols::of(alloc, procs)?;
+    let made = tally(alloc, symbols.made.as_slice(), names)?;
+    let standing = tally(alloc, symbols.own.as_slice(), names)?;
     meetings(alloc, outs.as_slice(), made.as_slice(), standing.as_slice())
 }
 

@@ -4,7 +4,7 @@ use Rattle.std.proofs.lemmas.Bool.{cases_Bool}
 use Rattle.cmd_tree.specs.declared.tree.Proc.{Proc}
 use Rattle.process_laws.specs.GrantForms.{Giving, granted_of}
 use Rattle.basic_kinds.specs.Sorts.{Sort}
-use Rattle.basic_kinds.specs.Sums.{wide_sum, total_of}
+use Rattle.basic_kinds.specs.Sums.{Counted, total_of}
 use Rattle.di_grammar.specs.Lists.{Each, Within}
 use Rattle.di_grammar.specs.Grants.{Gift, gifts_from, Grants, IsGrant}
 use Rattle.di_grammar.specs.Homes.{HasHome, IsElsewhere}
@@ -56,9 +56,9 @@ no_ring p other = elim (cases_Bool (grants p)) [
   | inr none ↦ none
 ]
 
-pub one_counted : (p : Proc) (names : ℕ) (t : Sort) → (IsGrant p → ⊥) → total_of wide_sum (processes (p ∷ []) names) t ≡ total_of wide_sum (counted (graph_of p) names) t
-one_counted p names t other = omega (
+pub one_counted : (sum : Counted → Sort → ℕ) (p : Proc) (names : ℕ) (t : Sort) → (IsGrant p → ⊥) → total_of sum (processes (p ∷ []) names) t ≡ total_of sum (counted (graph_of p) names) t
+one_counted sum p names t other = omega (
   arith,
-  ap (λ b. total_of wide_sum ((if b then [] else counted (graph_of p) names) ++ []) t) (no_ring p other),
-  total_append wide_sum (counted (graph_of p) names) [] t,
+  ap (λ b. total_of sum ((if b then [] else counted (graph_of p) names) ++ []) t) (no_ring p other),
+  total_append sum (counted (graph_of p) names) [] t,
 )

@@ -6,7 +6,8 @@ use Rattle.std.proofs.lemmas.List.Sums.{sum_by-cons}
 use Rattle.std.proofs.lemmas.Option.{slice_get-get_or}
 use Rattle.cmd_tree.specs.declared.command.Command.{Command}
 use Rattle.basic_kinds.specs.Sorts.{Sort, how_many}
-use Rattle.basic_kinds.specs.Sums.{wide_sum}
+use Rattle.basic_kinds.specs.Sums.{Counted, wide_sum}
+use Rattle.di_grammar.specs.Admitted.{Admitted}
 use Rattle.place_graph.specs.Sums.{command_sum}
 use Rattle.net_core.specs.declared.spec.NodeSpec.{NodeSpec}
 use Rattle.net_core.specs.declared.spec.NodeSpec.TheVariants.{Kind, Cmd}
@@ -14,11 +15,14 @@ use Rattle.net_core.specs.Specs.{is_kind}
 use Rattle.net_core.specs.Wiring.{Node, Circuit, IsNetwork, IsClosed}
 use Rattle.net_core.specs.Networks.{IsClean, Correct}
 use Rattle.net_core.specs.Renumbering.{sum_of_parts}
+use Rattle.net_sums.specs.NodeSums.{IsSum, node_sum}
+use Rattle.net_sums.proofs.WeaveSum.{weave_sum}
 use Rattle.plain_split.specs.OneWaitSums.{is_component}
 use Rattle.substitute.specs.Splice.{spliced, is_inner}
 use Rattle.substitute.proofs.Tables.{rank_few}
 use Rattle.substitute.proofs.Turns.{each_fits}
 use Rattle.substitute.specs.Splices.{all_spliced, FitEach, wires_in, EachPart, Serves, ServeEach, PassAfter, sum_after}
+use Rattle.weave_split.specs.WeaveNet.{IsWeaveNet}
 use Rattle.weave_split.specs.WeaveParts.{AreParts, part_sum}
 use Rattle.di_compile.specs.Compiling.{number_of}
 use Rattle.di_compile.specs.Mirror.InPlaces.{IsProcessNet, IsInPlace, AreInPlaces}
@@ -125,7 +129,19 @@ placed_sum s (x ∷ xs) (Some m ∷ ps) h = by x.spec h.0 ∙ ap (λ n. part_sum
   where
     by : (y : NodeSpec) → IsInPlace y (Some m) → sum_of_parts (one_of s) m + sum_after (one_of s) xs ps ≡ part_sum s y + sum_after (one_of s) xs ps
     by (Kind k) i = absurd i
-    by (Cmd d) i = ap (λ n. n + sum_after (one_of s) xs ps) (sym (many_sum (is_component s) (drop 1 m.nodes)) ∙ i.sums s)
+    by (Cmd d) i = ap (λ n. n + sum_after (one_of s) xs ps) (sym (many_sum (is_component s) (drop 1 m.nodes)) ∙ i.numbers s)
+
+-- the same by any sum
+summed : (sum : Counted → Sort → ℕ) → IsSum sum → (s : Sort) (xs : List Node) (ps : List (Option Circuit)) → AreInPlaces xs ps → sum_after (node_sum sum s) xs ps ≡ sum_by (λ (x : Node). node_sum sum s x.spec) xs
+summed sum w s [] [] h = refl
+summed sum w s [] (p ∷ ps) h = absurd h
+summed sum w s (x ∷ xs) [] h = absurd h
+summed sum w s (x ∷ xs) (None ∷ ps) h = ap (λ n. node_sum sum s x.spec + n) (summed sum w s xs ps h.1) ∙ sym (sum_by-cons (λ (x : Node). node_sum sum s x.spec) x xs)
+summed sum w s (x ∷ xs) (Some m ∷ ps) h = omega (arith, by x.spec h.0, summed sum w s xs ps h.1, sum_by-cons (λ (x : Node). node_sum sum s x.spec) x xs)
+  where
+    by : (y : NodeSpec) → IsInPlace y (Some m) → sum_of_parts (node_sum sum s) m ≡ node_sum sum s y
+    by (Kind k) i = absurd i
+    by (Cmd d) i = i.sums sum w s
 
 -- one more
 place_next : (xs : List Node) (n : ℕ) (x : Node) (ps : List (Option Circuit)) (p : Option Circuit) → slice_get xs n ≡ Some x
@@ -167,6 +183,10 @@ module _ (c : Command) (weave : Circuit) (ps : List (Option Circuit)) (placed : 
   pub whole_few : (whole : Circuit) → whole ≡ all_spliced weave 1 ps → weave.wires < 2 ^ 20 → AreParts (drop 1 weave.nodes) → whole.wires < 2 ^ 31
   whole_few whole is few parts = omega (arith, ap (λ (n : Circuit). n.wires) is, all_wires weave 1 ps, few_whole few parts)
 
-  pub whole_sums : (whole : Circuit) (s : Sort) → sum_of_parts (one_of s) whole ≡ sum_after (one_of s) (drop 1 weave.nodes) ps
+  pub whole_numbers : (whole : Circuit) (s : Sort) → sum_of_parts (one_of s) whole ≡ sum_after (one_of s) (drop 1 weave.nodes) ps
       → sum_of_parts (part_sum s) weave ≡ command_sum wide_sum c.procs (length c.names) s → number_of whole s ≡ command_sum wide_sum c.procs (length c.names) s
-  whole_sums whole s e k = many_sum (is_component s) (drop 1 whole.nodes) ∙ e ∙ placed_sum s (drop 1 weave.nodes) ps placed ∙ k
+  whole_numbers whole s e k = many_sum (is_component s) (drop 1 whole.nodes) ∙ e ∙ placed_sum s (drop 1 weave.nodes) ps placed ∙ k
+
+  pub whole_sums : (whole : Circuit) → ((f : NodeSpec → ℕ) → sum_of_parts f whole ≡ sum_after f (drop 1 weave.nodes) ps) → Admitted c.procs → IsWeaveNet c weave
+      → (sum : Counted → Sort → ℕ) → IsSum sum → (s : Sort) → sum_of_parts (node_sum sum s) whole ≡ command_sum sum c.procs (length c.names) s
+  whole_sums whole e admitted is sum w s = e (node_sum sum s) ∙ summed sum w s (drop 1 weave.nodes) ps placed ∙ weave_sum sum w c weave admitted is s

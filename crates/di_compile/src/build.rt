@@ -1,16 +1,17 @@
 //! The network of a command.
-ghost use Rattle.std.specs.Prelude.{drop, IfOk, IfErr};
+ghost use Rattle.std.specs.Prelude.{◌↔◌, drop, IsTrue, IfOk, IfErr};
 ghost use Rattle.di_grammar.specs.Admitted.{Admitted};
 ghost use Rattle.net_core.specs.Wiring.{IsClosed};
 ghost use Rattle.weave_split.specs.WeaveParts.{IsProcess, IsKindOrProcess, AreParts};
-ghost use Rattle.di_compile.specs.Compiling.{IsBuilt, IsInOrderOf, IsNetworkOf, IsRefused};
-ghost use Rattle.di_compile.specs.Mirror.InPlaces.{IsProcessNet, IsInPlace, AreInPlaces};
+ghost use Rattle.di_compile.specs.Compiling.{IsOfForm, IsBuilt, IsInOrderOf, IsNetworkOf, IsRefused};
+ghost use Rattle.di_compile.specs.Mirror.InPlaces.{IsProcessNet, IsInPlace, AreInPlaces, IsWideNet, IsWholeNet};
 
 use crate::refusal::CompileRefusal;
 use cmd_tree::{Command, MAX_COMPONENTS};
-use count_sum::{Basis, count_wide};
+use count_sum::{Basis, count, is_narrow};
 use di_grammar::check;
 use net_core::{Net, NodeSpec, order};
+use net_layers::split_all;
 use place_graph::{SplitStyle, graph, style};
 use plain_split::plain_net;
 use std::alloc::{AllocError, Global};
@@ -18,48 +19,74 @@ use substitute::splice_all;
 use token_split::token_net;
 use weave_split::weave_net;
 
-/// The network of a command, in walk order: closed, of basic components, correct for the command, with as
-/// many components of each kind as the sums of the command say, and with symbol i on wire i.
+/// The network of a command, in walk order: closed, of basic components, in the basis two of two-way ones, correct for the
+/// command, with as many components of each kind as the sums of the command say, and with symbol i on wire i.
 ///
-/// A command that breaks a rule is refused with the answer of `check`; in the basis two no network is built today,
-/// and an admitted command is `NotThisForm`; and one whose network would have more than 65,536 components is refused
+/// A command that breaks a rule is refused with the answer of `check`. In the basis two an admitted command is
+/// `NotThisForm` where some decision-wait has more than two rows or columns, or some sequencer more than two requests: no
+/// network of it is built today. And a command whose network would have more than 65,536 components is refused
 /// with their number, before anything is built. Time and memory grow with the places of the command and the wires of its
-/// network.
+/// network; in the basis two the time is theirs times the logarithm of the greatest width.
 pub fn compile(alloc: Global, command: &Command, basis: Basis) -> Result<Net, CompileRefusal>
-    ensures ok { IfOk result (λ net. IsBuilt basis command.now.procs × IsNetworkOf command.now net) }
+    ensures ok { IfOk result (λ net. IsBuilt basis command.now.procs × IsNetworkOf basis command.now net) }
     ensures refused { IfErr result (IsRefused basis command.now.procs) }
 {
     if let Some(broken) = check(command) {
         return Err(CompileRefusal::Broken(broken));
     }
+    if !is_of_form(alloc, command, basis)? {
+        return Err(CompileRefusal::NotThisForm);
+    }
+    compile_within(alloc, command, basis)
+}
+
+/// Whether a network is built today in this basis.
+fn is_of_form(alloc: Global, command: &Command, basis: Basis) -> Result<bool, AllocError>
+    requires { Admitted command.now.procs }
+    ensures { IfOk result (λ it. IsTrue it ↔ IsOfForm basis command.now.procs) }
+{
     match basis {
-        Basis::Wide => compile_within(alloc, command),
-        Basis::Two => Err(CompileRefusal::NotThisForm),
+        Basis::Wide => Ok(true),
+        Basis::Two => is_narrow(alloc, command),
     }
 }
 
 /// The components are counted before anything is built.
-fn compile_within(alloc: Global, command: &Command) -> Result<Net, CompileRefusal>
-    requires { Admitted command.now.procs }
-    ensures ok { IfOk result (λ net. IsBuilt Basis.Wide command.now.procs × IsNetworkOf command.now net) }
-    ensures refused { IfErr result (IsRefused Basis.Wide command.now.procs) }
+fn compile_within(alloc: Global, command: &Command, basis: Basis) -> Result<Net, CompileRefusal>
+    requires admitted { Admitted command.now.procs }
+    requires form { IsOfForm basis command.now.procs }
+    ensures ok { IfOk result (λ net. IsBuilt basis command.now.procs × IsNetworkOf basis command.now net) }
+    ensures refused { IfErr result (IsRefused basis command.now.procs) }
 {
-    let count = count_wide(alloc, command)?.total();
+    let count = count(alloc, command, basis)?.total();
     if count > MAX_COMPONENTS as u64 {
         return Err(CompileRefusal::TooManyComponents { count });
     }
-    Ok(compile_wide(alloc, command)?)
+    let whole = whole_net(alloc, command, basis)?;
+    Ok(in_order(alloc, whole)?)
+}
+
+/// The network in the basis, in the order in which it is built.
+fn whole_net(alloc: Global, command: &Command, basis: Basis) -> Result<Net, AllocError>
+    requires { IsBuilt basis command.now.procs }
+    ensures { IfOk result (IsWholeNet basis command.now) }
+{
+    let wide = wide_net(alloc, command)?;
+    match basis {
+        Basis::Wide => Ok(wide),
+        Basis::Two => split_all(alloc, wide),
+    }
 }
 
 /// The network of the weave, with the network of each process in its place.
-fn compile_wide(alloc: Global, command: &Command) -> Result<Net, AllocError>
+fn wide_net(alloc: Global, command: &Command) -> Result<Net, AllocError>
     requires { Admitted command.now.procs }
-    ensures { IfOk result (λ net. IsNetworkOf command.now net) }
+    ensures { IfOk result (IsWideNet command.now) }
 {
     let weave = weave_net(alloc, command)?;
     let parts = part_nets(alloc, &weave)?;
     let whole = splice_all(alloc, &weave, parts.as_slice())?;
-    in_order(alloc, whole)
+    Ok(whole)
 }
 
 /// What takes the places of the components: of a process its network, and of a kind nothing.

@@ -1,7 +1,7 @@
 //! From a command to its network.
 //!
 //! `compile` checks the command, builds the network of its weave, puts the network of each process in its
-//! place, and puts the whole in walk order. Today it builds in the basis wide.
+//! place, in the basis two layers in the places of all components that are not two-way, and puts the whole in walk order.
 #![tactic(auto)]
 
 mod build;

@@ -1,5 +1,6 @@
 -- What the sums take for a grant is one.
-use Rattle.std.proofs.Common.{◌≡◌, ◌↔◌, inl, inr, ℕ, ◌<◌, true, true≢false, List, [], ◌∷◌, length, Option, Some, None, refl, sym, ap, ◌∙◌, arith, if◌then◌else◌}
+use Rattle.std.specs.Prelude.{IsTrue}
+use Rattle.std.proofs.Common.{◌≡◌, ◌↔◌, inl, inr, ℕ, ◌<◌, Bool, true, false, true≢false, List, [], ◌∷◌, length, Option, Some, None, refl, sym, ap, ◌∙◌, arith, if◌then◌else◌}
 use Rattle.cmd_tree.specs.declared.tree.Dir.{Dir}
 use Rattle.cmd_tree.specs.declared.tree.Dir.TheVariants.{Input, Output}
 use Rattle.cmd_tree.specs.declared.tree.Mark.{Mark}
@@ -143,3 +144,12 @@ grants_are p = ((λ e. parts_grant p p.lead p.body refl refl e), back)
     back : IsGrant p → grants p ≡ true
     back (gs, inl g) = ap grants g.is ∙ ap (λ o. is_ring (of_several plain_ring o)) (gifts_all g.symbols) ∙ is_several plain_ring g.symbols g.many
     back (gs, inr g) = ap grants g.is ∙ ap (λ o. is_ring (of_several release_ring o)) (loans_all g.givings) ∙ is_several release_ring g.givings g.many
+
+same_tests : (a b : Bool) → (a ≡ true → b ≡ true) → (b ≡ true → a ≡ true) → a ≡ b
+same_tests true b f g = sym (f refl)
+same_tests false true f g = g refl
+same_tests false false f g = refl
+
+-- what says whether the process is a grant says what the sums take it for
+pub counted_alike : (p : Proc) (b : Bool) → IsTrue b ↔ IsGrant p → b ≡ grants p
+counted_alike p b h = same_tests b (grants p) (λ t. (grants_are p).1 (h.0 t)) (λ t. h.1 ((grants_are p).0 t))

@@ -3,6 +3,7 @@ ghost use Rattle.std.specs.Prelude.{◌≡◌, ◌↔◌, IsTrue, is_some};
 ghost use Rattle.cmd_tree.specs.View.{item_of, seqs_of, seq_of};
 ghost use Rattle.di_grammar.specs.declared.grants.Form.TheVariants.{Plain, Release};
 ghost use Rattle.di_grammar.specs.Grants.{IsGrant};
+ghost use Rattle.di_grammar.specs.Sums.{grants};
 ghost use Rattle.di_grammar.specs.Mirror.Found.{same_dir, is_mark, is_single, is_gift, are_gifts, offers, found_in, found_after, found_body, found, told, item_symbol, seq_symbol, first_place, step_of};
 
 use cmd_tree::{Dir, Item, Mark, Proc, Seq};
@@ -21,9 +22,11 @@ pub struct Grant<'a> {
     pub choice: &'a [Seq],
 }
 
-/// Whether a process is a grant.
+/// Whether a process is a grant: `pref*[n?;(p1!|..|pk!)]` or `pref*[p1!;d1?|..|pk!;dk?]`. What the sums take for a
+/// grant is the same. It looks at each alternative once and takes no memory.
 pub fn is_grant(process: &Proc) -> bool
-    ensures { IsTrue result ↔ IsGrant process.now }
+    ensures is { IsTrue result ↔ IsGrant process.now }
+    ensures counted { result ≡ grants process.now }
 {
     grant_of(process).is_some()
 }

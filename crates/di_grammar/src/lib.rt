@@ -20,5 +20,6 @@ mod symbols;
 mod twins;
 
 pub use answer::{Broken, check};
+pub use grants::is_grant;
 pub use laws::{grants_law, processes_law, sums_law, weave_law};
 pub use rule_laws::{answers_law, rules_law};

@@ -5,6 +5,7 @@ use Rattle.cmd_tree.specs.declared.command.Command.{Command}
 use Rattle.cmd_tree.specs.declared.tree.Proc.{Proc}
 use Rattle.net_core.specs.Wiring.{Circuit}
 use Rattle.cmd_tree.specs.declared.limits.TheConstants.{MAX_COMPONENTS}
+use Rattle.count_sum.specs.declared.counts.Basis.TheVariants.{Wide}
 use Rattle.di_compile.specs.Compiling.{total, IsNetworkOf}
 use Rattle.di_top.specs.declared.outcome.Outcome.{Outcome}
 use Rattle.di_top.specs.declared.outcome.Outcome.TheVariants.{Done, NoMemory, Limit}
@@ -19,7 +20,7 @@ use Rattle.di_top.specs.Plans.{IsStop}
 use Rattle.di_top.proofs.Stops.{stops_are_stops}
 
 pub compile_done : (r : Reading) (file : List ℕ) (command : Command) (net : Circuit) → FileHolds r file command.names command.procs
-    → Compiles command.procs × IsNetworkOf command net → Gives (Some (CompileWide file)) r Done × Prints (Some (CompileWide file)) r (net_text net)
+    → Compiles command.procs × IsNetworkOf Wide command net → Gives (Some (CompileWide file)) r Done × Prints (Some (CompileWide file)) r (net_text net)
 compile_done r file command net h (built, network) = (
   inr (Taken command.names command.procs h (inl (built, refl))),
   record { command = command; held = h; compiles = built; netlist = record { net = net; network = network; is = refl } },
@@ -27,7 +28,7 @@ compile_done r file command net h (built, network) = (
 
 -- an admitted command whose network would have too many components, or memory is missing
 pub not_built : (r : Reading) (file : List ℕ) (command : Command) → FileHolds r file command.names command.procs → (stop : Outcome)
-    → (stop ≡ NoMemory) ⊎ ((MAX_COMPONENTS < total command.procs) × (stop ≡ Limit 6 (total command.procs))) → IsStop stop × Gives (Some (CompileWide file)) r stop
+    → (stop ≡ NoMemory) ⊎ ((MAX_COMPONENTS < total Wide command.procs) × (stop ≡ Limit 6 (total Wide command.procs))) → IsStop stop × Gives (Some (CompileWide file)) r stop
 not_built r file command h stop (inl e) = let P : Outcome → Type 0 = IsStop in (subst P (sym e) tt, inl e)
 not_built r file command h stop (inr (many, e)) =
     let P : Outcome → Type 0 = IsStop in (subst P (sym e) tt, inr (Taken command.names command.procs h (inr (many, e))))

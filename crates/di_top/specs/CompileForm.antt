@@ -21,7 +21,7 @@ Compiles procs = IsBuilt Wide procs
 
 -- what is answered of an admitted command: a network is built of it, or that would have too many components
 abbrev pub CompileUses : List Proc → Outcome → Type 0
-CompileUses procs outcome = (Compiles procs × (outcome ≡ Done)) ⊎ ((MAX_COMPONENTS < total procs) × (outcome ≡ Limit 6 (total procs)))
+CompileUses procs outcome = (Compiles procs × (outcome ≡ Done)) ⊎ ((MAX_COMPONENTS < total Wide procs) × (outcome ≡ Limit 6 (total Wide procs)))
 
 abbrev pub CompileGives : Reading → List ℕ → Outcome → Type 0
 CompileGives r file outcome = FileGives CompileUses r file outcome
@@ -32,7 +32,7 @@ CompileAdmits r file = FileAdmits Compiles r file
 -- the text is the netlist of this command
 pub record IsNetlist (command : Command) (text : List ℕ) : Type 0 where
   pub net : Circuit
-  pub network : IsNetworkOf command net
+  pub network : IsNetworkOf Wide command net
   pub is : text ≡ net_text net
 
 -- the text is the netlist of the command in these bytes, whose traces keep the rules of delay-insensitivity

@@ -2,6 +2,7 @@
 ghost use Rattle.std.specs.Prelude.{◌≡◌, ◌≤◌, ◌<◌, ◌⊎◌, ℕ, List, IfOk, IfErr, Some};
 ghost use Rattle.di_grammar.specs.Admitted.{Admitted};
 ghost use Rattle.cmd_tree.specs.declared.limits.TheConstants.{MAX_COMPONENTS};
+ghost use Rattle.count_sum.specs.declared.counts.Basis.TheVariants.{Wide};
 ghost use Rattle.di_compile.specs.Compiling.{total, IsNetworkOf};
 ghost use Rattle.di_top.specs.Requests.{CompileWide as Asked};
 ghost use Rattle.di_top.specs.Calls.{reading};
@@ -36,9 +37,9 @@ pub fn plan_compile<F: Shelf>(alloc: Global, file: &str, shelf: &mut F) -> Resul
 // The network of an admitted command.
 fn network(alloc: Global, command: &Command) -> Result<Net, Outcome>
     requires { Admitted command.now.procs }
-    ensures ok { IfOk result (λ net. Compiles command.now.procs × IsNetworkOf command.now net) }
+    ensures ok { IfOk result (λ net. Compiles command.now.procs × IsNetworkOf Wide command.now net) }
     ensures stop { IfErr result (λ stop. (stop ≡ Outcome.NoMemory)
-        ⊎ ((MAX_COMPONENTS < total command.now.procs) × (stop ≡ Outcome.Limit 6 (total command.now.procs)))) }
+        ⊎ ((MAX_COMPONENTS < total Wide command.now.procs) × (stop ≡ Outcome.Limit 6 (total Wide command.now.procs)))) }
 {
     match compile(alloc, command, Basis::Wide) {
         Ok(net) => Ok(net),

@@ -7,8 +7,9 @@ use Rattle.std.proofs.lemmas.Bool.{and_parts, ltb-true, lt-ltb}
 use Rattle.std.proofs.lemmas.Bool.Decides.{nat_tests}
 use Rattle.basic_kinds.specs.Shapes.{IsShape, is_before, is_rising, is_within}
 use Rattle.net_text.specs.Mirror.Crossings.{is_chain, is_placed, side}
-use Rattle.net_text.specs.Mirror.PartWords.{pieces, crossing_in, crossing_of}
-use Rattle.net_text.proofs.Cuts.{cut}
+use Rattle.net_text.specs.Mirror.PartWords.{crossing_in, crossing_of}
+use Rattle.text_lines.specs.Pieces.{pieces}
+use Rattle.text_lines.proofs.Cuts.{cut}
 
 before_joined : (p q r : ℕ × ℕ) → is_before p q ≡ true → is_before q r ≡ true → is_before p r ≡ true
 before_joined p q r e f = grind (arith, nat_tests)
@@ -89,12 +90,6 @@ shape_whole rows cols cross e f g =
       each_row = f;
       each_column = g;
     }
-
-pub shape_placed : (rows cols : ℕ) (cross : List (ℕ × ℕ)) → IsShape rows cols cross → is_placed rows cols cross ≡ true
-shape_placed rows cols cross w =
-    and_both (nat_lt 0 rows && nat_lt 0 cols && is_rising cross) (list_all (is_within rows cols) cross)
-    (and_both (nat_lt 0 rows && nat_lt 0 cols) (is_rising cross)
-    (and_both (nat_lt 0 rows) (nat_lt 0 cols) (lt-ltb 0 rows w.some_row) (lt-ltb 0 cols w.some_column)) w.rising) w.within
 
 -- both tests are passed by shapes alone
 pub shape_by : (rows cols : ℕ) (cross : List (ℕ × ℕ)) (by_rows by_cols : Bool) → is_placed rows cols cross ≡ true

@@ -3,7 +3,6 @@ pub mod Words
 pub mod CommandLine
 pub mod ComponentLine
 pub mod Told
-pub mod Cuts
 pub mod Numerals
 pub mod Crossings
 pub mod PartLines

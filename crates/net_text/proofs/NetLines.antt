@@ -18,9 +18,10 @@ use Rattle.net_core.specs.Specs.{outs_of, gives_symbol}
 use Rattle.net_text.specs.declared.refusal.NetRefusal.{NetRefusal}
 use Rattle.net_text.specs.declared.refusal.NetRefusal.TheVariants as told
 use Rattle.net_text.specs.NetFault.{IsLine, Spec, Ports, behind_spec, spec_line, symbol_line, symbol_lines, port_lines, port, IsFaulty, bad, refused, IsFirstFault, later, here, cut as cut_off}
-use Rattle.net_text.specs.Mirror.PartWords.{pieces}
+use Rattle.text_lines.specs.Pieces.{pieces}
 use Rattle.net_text.specs.Mirror.Stages.{text_of}
-use Rattle.net_text.proofs.Cuts.{IsPiece, cut, clean_pieces, first_cut}
+use Rattle.text_lines.proofs.Cuts.{cut, clean_pieces, first_cut}
+use Rattle.text_lines.specs.Pieces.{IsPiece}
 
 -- ---- the first piece
 pub joined_at : (c : ℕ) (text piece rest : List ℕ) → pieces c text ≡ piece ∷ pieces c rest → text ≡ piece ++ c ∷ rest

@@ -16,15 +16,6 @@ both true true n e f = refl
 both true false n e f = absurd (cc)
 both false b n e f = absurd (cc)
 
-first_fails : (a b : Bool) (n : ℕ) → a ≡ false → tested a b n ≡ None
-first_fails false b n e = refl
-first_fails true b n e = absurd (cc)
-
-second_fails : (a b : Bool) (n : ℕ) → b ≡ false → tested a b n ≡ None
-second_fails true false n e = refl
-second_fails false false n e = refl
-second_fails a true n e = absurd (cc)
-
 pub number_some : (bound : ℕ) (w : List ℕ) (n : ℕ) → bound ≤ 2 ^ 32 → IsDecimal w → n ≡ value_of w → n < bound
     → number_of bound w ≡ Some n
 number_some bound w n h d e l =
@@ -32,20 +23,6 @@ number_some bound w n h d e l =
     let below : value_of w < bound = omega (arith, e, l) in
     both (bytes_eq w (decimal (value_of w))) (nat_lt (value_of w) bound) (value_of w)
     ((bytes_eq-Decides w (decimal (value_of w))).1 (decimal-value w d small)) (lt-ltb (value_of w) bound below) ∙ ap Some (sym e)
-
-pub number_large : (bound : ℕ) (w : List ℕ) → bound ≤ value_of w → number_of bound w ≡ None
-number_large bound w l = second_fails (bytes_eq w (decimal (value_of w))) (nat_lt (value_of w) bound) (value_of w)
-    (le-ltb (value_of w) bound l)
-
-pub number_none : (bound : ℕ) (w : List ℕ) → bound ≤ 2 ^ 32 → (IsDecimal w → ⊥) → number_of bound w ≡ None
-number_none bound w h no_decimal = elim (cases_Bool (bytes_eq w (decimal (value_of w)))) [
-  | inl t ↦ elim (cases_Bool (nat_lt (value_of w) bound)) [
-    | inl l ↦ absurd (no_decimal (subst IsDecimal (sym ((bytes_eq-Decides w (decimal (value_of w))).0 t))
-        (decimal_is (value_of w) (let b : value_of w < bound = ltb-true (value_of w) bound l in omega (arith, b, h)))))
-    | inr f ↦ second_fails (bytes_eq w (decimal (value_of w))) (nat_lt (value_of w) bound) (value_of w) f
-  ]
-  | inr f ↦ first_fails (bytes_eq w (decimal (value_of w))) (nat_lt (value_of w) bound) (value_of w) f
-]
 
 -- the number of a decimal
 pub number_decimal : (bound n : ℕ) → bound ≤ 2 ^ 32 → n < bound → number_of bound (decimal n) ≡ Some n

@@ -24,9 +24,11 @@ use Rattle.net_core.specs.Specs.{sides}
 use Rattle.net_core.proofs.Sizes.{all_append}
 use Rattle.net_text.specs.NetText.{component_line, node_line}
 use Rattle.net_text.specs.NetFault.{IsPart, IsPartLine, IsNoPartLine}
-use Rattle.net_text.specs.Mirror.PartWords.{pieces, number_of, and_then, items_until, inputs_in, numbers_in, Ends, ends_behind, ends_in, crossing_in, crossing_of, crossings_in, number_in, Wait, wait_ends, wait_crossings, wait_cols, wait_in, name_of, IsPlain, IsPlainPart, IsNoPlainPart, IsWaitPart, IsNoWaitPart}
+use Rattle.net_text.specs.Mirror.PartWords.{number_of, and_then, items_until, inputs_in, numbers_in, Ends, ends_behind, ends_in, crossing_in, crossing_of, crossings_in, number_in, Wait, wait_ends, wait_crossings, wait_cols, wait_in, name_of, IsPlain, IsPlainPart, IsNoPlainPart, IsWaitPart, IsNoWaitPart}
+use Rattle.text_lines.specs.Pieces.{pieces}
 use Rattle.net_text.proofs.Words.{Word, led, decimal_word, decimal_begins}
-use Rattle.net_text.proofs.Cuts.{IsPiece, line_of, words_cut, words_back, first_cut, one_piece}
+use Rattle.text_lines.proofs.Cuts.{words_cut, words_back, first_cut, one_piece}
+use Rattle.text_lines.specs.Pieces.{IsPiece, line_of}
 use Rattle.net_text.proofs.ComponentLine.{pair, shape_of, wires_then, line_opened, name_word}
 use Rattle.net_text.proofs.Numerals.{number_decimal, number_told}
 

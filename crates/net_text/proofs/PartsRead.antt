@@ -16,9 +16,9 @@ use Rattle.net_text.specs.declared.refusal.NetRefusal.{NetRefusal}
 use Rattle.net_text.specs.declared.refusal.NetRefusal.TheVariants as told
 use Rattle.net_text.specs.NetText.{node_line}
 use Rattle.net_text.specs.NetFault.{IsLine, Place, Version, Spec, Parts, Over, behind_spec, version_line, spec_line, port_lines, IsPartLine, IsNoPartLine, version, spec, part, last, bad, many, IsDue, with_parts, network, IsLeastOpen, IsFirstFault, later, here, cut as cut_off, behind, NetFault}
-use Rattle.net_text.specs.Mirror.PartWords.{pieces}
+use Rattle.text_lines.specs.Pieces.{pieces}
 use Rattle.net_text.specs.Mirror.Stages.{Refuses, RefusesLine, text_of, parts_text as of_parts, IsNetOf, IsNetFromSpec}
-use Rattle.net_text.proofs.Cuts.{cut}
+use Rattle.text_lines.proofs.Cuts.{cut}
 use Rattle.net_text.proofs.NetLines.{first_clean, last_back}
 
 pub empty_is : (xs : List ℕ) → length xs ≡ 0 → xs ≡ []
@@ -174,17 +174,6 @@ ok_more (Err e) P Q f h = tt
 pub err_more : {A E : Type 0} (r : Result A E) (P Q : E → Type 0) → ((x : E) → P x → Q x) → IfErr r P → IfErr r Q
 err_more (Ok x) P Q f h = tt
 err_more (Err e) P Q f h = f e h
-
-pub net_of_more : (c : Command) (head text rest : List ℕ) (net : Circuit) → text ≡ head ++ rest → IsNetOf c [] rest net → IsNetOf c head text net
-net_of_more c head text rest net e f = record {
-  parts = f.parts;
-  is = f.is;
-  closed = f.closed;
-  small = f.small;
-  few = f.few;
-  good = f.good;
-  text = e ∙ ap (λ (u : List ℕ). head ++ u) f.text;
-}
 
 pub net_from_spec : (c : Command) (text line rest : List ℕ) (net : Circuit) → IsCut text line rest → line ≡ spec_line c → Admitted c.procs
     → IsNetOf c (text_of (port_lines c)) rest net → IsNetFromSpec text net

@@ -7,13 +7,14 @@ ghost use Rattle.net_core.specs.Specs.{outs_of, gives_symbol};
 ghost use Rattle.net_text.specs.NetFault.{Spec, Parts, IsLine, IsFirstFault, spec_line, symbol_line, port_lines, behind_spec};
 ghost use Rattle.net_text.specs.Mirror.Stages.{text_of, Refuses, RefusesLine};
 
-use crate::pieces::{first_line, first_piece};
+use crate::pieces::first_line;
 use crate::refusal::NetRefusal;
 use cmd_expand::read_command;
 use cmd_tree::{Command, Name};
 use di_grammar::check;
 use itoa::Buffer;
 use std::alloc::{AllocError, Global};
+use text_lines::first_piece;
 
 /// The admitted command whose line this is.
 pub(crate) fn read_spec(alloc: Global, line: &[u8]) -> Result<Command, NetRefusal>

@@ -1,16 +1,17 @@
 //! The line of a component, read.
 ghost use Rattle.std.specs.Prelude.{◌≡◌, ◌↔◌, ◌+◌, ◌<◌, ◌≤◌, ◌^◌, IsTrue, length, IfOk, IfSome, IsNone};
 ghost use Rattle.basic_kinds.specs.Kinds.{inputs_of, outputs_of, IsWide};
-ghost use Rattle.net_text.specs.Mirror.PartWords.{kind_named, pieces, IsPlain, IsPlainPart, IsNoPlainPart, IsWaitPart, IsNoWaitPart};
+ghost use Rattle.net_text.specs.Mirror.PartWords.{kind_named, IsPlain, IsPlainPart, IsNoPlainPart, IsWaitPart, IsNoWaitPart};
+ghost use Rattle.text_lines.specs.Pieces.{pieces};
 ghost use Rattle.net_text.specs.NetFault.{IsPartLine, IsNoPartLine};
 
-use crate::pieces::first_piece;
 use crate::wait::{Wait, is_shape, read_wait};
 use crate::wires::{Wires, read_wires};
 use basic_kinds::{Kind, Shape};
 use net_core::{Node, NodeSpec};
 use sqlite_items::Items;
 use std::alloc::{AllocError, Global};
+use text_lines::first_piece;
 
 /// The component whose line this is; none where it is that of none.
 pub(crate) fn read_part(alloc: Global, line: &[u8]) -> Result<Option<Node>, AllocError>

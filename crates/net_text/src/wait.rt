@@ -3,12 +3,13 @@ ghost use Rattle.std.specs.Prelude.{◌≡◌, ◌↔◌, ℕ, ◌+◌, ◌<◌,
 ghost use Rattle.std.specs.List.{list_all, list_any};
 ghost use Rattle.std.specs.Option.{option_copied};
 ghost use Rattle.basic_kinds.specs.Shapes.{IsShape, is_before, is_rising, is_within};
-ghost use Rattle.net_text.specs.Mirror.PartWords.{pieces, pieces_left, left_size, crossing_of, crossings_in, wait_in};
+ghost use Rattle.net_text.specs.Mirror.PartWords.{crossing_of, crossings_in, wait_in};
+ghost use Rattle.text_lines.specs.Pieces.{pieces, pieces_left, left_size};
 ghost use Rattle.net_text.specs.Mirror.Crossings.{is_chain, is_placed, side};
 
-use crate::pieces::first_piece;
 use crate::wires::{Wires, first_number, read_number, read_wires};
 use std::alloc::{AllocError, Global};
+use text_lines::first_piece;
 
 /// A decision wait as it is written: whether the crossings are those of a shape is not known.
 #[derive(Drop)]

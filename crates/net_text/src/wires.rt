@@ -2,12 +2,12 @@
 ghost use Rattle.std.specs.Prelude.{◌≡◌, ◌+◌, ◌≤◌, ◌^◌, true, false, Some, None, length, IfOk, IfSome, IsNone, OnOk};
 ghost use Rattle.std.specs.Option.{option_copied};
 ghost use Rattle.cmd_tree.specs.declared.limits.TheConstants.{MAX_NETLIST_WIRES};
-ghost use Rattle.net_text.specs.Mirror.PartWords.{pieces, pieces_left, left_size, number_of, inputs_in, numbers_in, ends_in, number_in};
+ghost use Rattle.net_text.specs.Mirror.PartWords.{number_of, inputs_in, numbers_in, ends_in, number_in};
+ghost use Rattle.text_lines.specs.Pieces.{pieces, pieces_left, left_size};
 
-use crate::pieces::first_piece;
 use cmd_tree::MAX_NETLIST_WIRES;
 use std::alloc::{AllocError, Global};
-use text_lines::{DecimalFault, decimals_are_numbers, read_decimal};
+use text_lines::{DecimalFault, decimals_are_numbers, first_piece, read_decimal};
 
 /// The wires of a component, of which the first are its inputs.
 #[derive(Drop)]

@@ -53,5 +53,6 @@ pub mod SharedGiven
 pub mod SharedLists
 pub mod SharedPaths
 pub mod SharedSeen
+pub mod SharedSorts
 pub mod SharedSums
 pub mod SharedTold

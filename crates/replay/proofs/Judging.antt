@@ -1,5 +1,5 @@
 -- The step of an event, and that the answer by its step is the answer to the event.
-use Rattle.std.proofs.Common.{◌≡◌, ◌↔◌, ℕ, ◌+◌, ◌-◌, ◌<◌, ◌≤◌, Bool, true, false, true≢false, ◌&&◌, if◌then◌else◌, nat_eq, List, [], ◌∷◌, ◌++◌, length, get_or, replicate, Option, Some, None, IsTrue, refl, sym, ap, ◌∙◌, subst, arith, eqb-true, eq-eqb}
+use Rattle.std.proofs.Common.{◌≡◌, ◌≢◌, ◌↔◌, ℕ, ◌+◌, ◌-◌, ◌<◌, ◌≤◌, Bool, true, false, true≢false, ◌&&◌, if◌then◌else◌, nat_eq, List, [], ◌∷◌, ◌++◌, length, get_or, replicate, Option, Some, None, IsTrue, refl, sym, ap, ◌∙◌, subst, arith, eqb-true, eq-eqb}
 use Rattle.std.specs.Prelude.{slice_get, nat_lt, nat_le, option_map}
 use Rattle.std.proofs.lemmas.Bool.{false≢true}
 use Rattle.std.proofs.lemmas.Bool.Decides.{nat_tests}
@@ -18,7 +18,7 @@ use Rattle.replay.specs.declared.event.Event.{Event}
 use Rattle.replay.specs.declared.event.Event.TheVariants.{Give, Pass, Fire, Unknown}
 use Rattle.replay.specs.declared.event.Answer.TheVariants.{Done, Forbidden, WrongOutput, CannotFire, NotAllowed}
 use Rattle.replay.specs.declared.step.Step.{Step}
-use Rattle.replay.specs.Answers.{output_of, output_in, output_at, event_of, IsFireAnswer, IsPassAnswer, IsAnswerTo, IsAnswer, Course, state_of, state_after, left_by}
+use Rattle.replay.specs.Answers.{output_of, output_in, output_at, event_of, IsFireAnswer, IsPassAnswer, IsAnswerTo, IsAnswer, MayHappen, IsEnabled, Course, state_of, state_after, left_by}
 use Rattle.replay.specs.Mirror.Steps.{step_by, step_for, moved, MayTake, refused, unwanted, verdict, Judged}
 
 -- ---- options
@@ -176,9 +176,39 @@ module _ (r : Course) (e : Event) (p : Step) (can busy : Bool) (w : Weighed r e 
         wire = subst (λ (q : Step). q.wire < r.net.wires) (sym is) (wire_there r.net w.network w.closed event_found.0 there);
       }
 
+-- ---- whether the event may happen
+
+may_fire : (c : Circuit) (s : State) (ev : runs.Event) (can : Bool) → IsThere c ev → (step_by c ev).fills ≡ true
+    → (IsTrue can ↔ MayTake c s (step_by c ev)) → IsTrue can ↔ Enabled (fabric c) s ev
+may_fire c s (runs.Fire n p) can t f m = (λ h. (t, m.0 h), λ e. m.1 e.1)
+may_fire c s (runs.Pass w) can t f m = absurd (false≢true f)
+
+may_pass : (c : Circuit) (s : State) (ev : runs.Event) (busy : Bool) → (step_by c ev).fills ≢ true
+    → busy ≡ s.busy (step_by c ev).wire → IsTrue busy ↔ Enabled (fabric c) s ev
+may_pass c s (runs.Fire n p) busy f b = absurd (f refl)
+may_pass c s (runs.Pass w) busy f b = (λ h. sym b ∙ h, λ h. b ∙ h)
+
+module _ (c : Circuit) (s : State) (e : Event) (p : Step) (network : IsNetwork c) (closed : IsClosed c) (step : step_for c e ≡ Some p) where
+  pub enabled_fire : (can : Bool) → (p.node < length c.nodes → IsTrue can ↔ MayTake c s p) → p.fills ≡ true
+      → IsTrue can ↔ IsEnabled c s e
+  enabled_fire can takes fills =
+      let (ev, named, is) = mapped_from (step_by c) (event_of c e) p step in
+      let there = is_there c e ev named in
+      let node : p.node < length c.nodes =
+      subst (λ (q : Step). q.node < length c.nodes) (sym is) (node_there c network closed ev there) in
+      subst (λ o. IsTrue can ↔ MayHappen c s o) (sym named)
+      (may_fire c s ev can there (ap (λ (q : Step). q.fills) (sym is) ∙ fills)
+      (subst (λ (q : Step). IsTrue can ↔ MayTake c s q) is (takes node)))
+
+  pub enabled_pass : (busy : Bool) → busy ≡ s.busy p.wire → p.fills ≢ true → IsTrue busy ↔ IsEnabled c s e
+  enabled_pass busy fills other =
+      let (ev, named, is) = mapped_from (step_by c) (event_of c e) p step in
+      subst (λ o. IsTrue busy ↔ MayHappen c s o) (sym named)
+      (may_pass c s ev busy (λ f. other (ap (λ (q : Step). q.fills) is ∙ f)) (fills ∙ ap (λ (q : Step). s.busy q.wire) is))
+
 -- ---- a judged event
 
-moved_by : (c : Circuit) (s : State) (ev : runs.Event) → runs.after (fabric c) s ev ≡ moved s (step_by c ev)
+pub moved_by : (c : Circuit) (s : State) (ev : runs.Event) → runs.after (fabric c) s ev ≡ moved s (step_by c ev)
 moved_by c s (runs.Fire n p) = refl
 moved_by c s (runs.Pass w) = refl
 

@@ -84,6 +84,17 @@ IsAnswerTo c s (Some (runs.Pass w)) a = IsPassAnswer c s w a
 abbrev pub IsAnswer : Circuit → State → Event → Answer → Type 0
 IsAnswer c s e a = IsAnswerTo c s (event_of c e) a
 
+-- ---- the enabled events
+
+-- the event may happen, whether or not it has a hazard
+abbrev pub MayHappen : Circuit → State → Option runs.Event → Type 0
+MayHappen c s None = ⊥
+MayHappen c s (Some e) = Enabled (fabric c) s e
+
+-- the event of a schedule is one of the network, and may happen in the state
+abbrev pub IsEnabled : Circuit → State → Event → Type 0
+IsEnabled c s e = MayHappen c s (event_of c e)
+
 -- ---- the states
 
 abbrev pub left_by : Circuit → State → Option runs.Event → State

@@ -1,9 +1,9 @@
 //! A run so far: the network, what stands for its state, and the events that were applied.
-ghost use Rattle.std.specs.Prelude.{◌≡◌, ◌≢◌, ℕ, ◌+◌, ◌-◌, ◌≤◌, List, [], ◌∷◌, ◌++◌, vec_len, vec_capacity, IfOk, IfErr};
+ghost use Rattle.std.specs.Prelude.{◌≡◌, ◌≢◌, ◌↔◌, ℕ, IsTrue, ◌+◌, ◌-◌, ◌≤◌, List, [], ◌∷◌, ◌++◌, vec_len, vec_capacity, IfOk, IfErr};
 ghost use Rattle.net_core.specs.Runs.{grow};
 ghost use Rattle.replay.specs.declared.event.Answer.{Answer};
-ghost use Rattle.replay.specs.Answers.{IsPlayable, IsAnswer, state_of, symbols};
-ghost use Rattle.replay.specs.Mirror.Steps.{Judged};
+ghost use Rattle.replay.specs.Answers.{IsPlayable, IsAnswer, IsEnabled, state_of, symbols};
+ghost use Rattle.replay.specs.Mirror.Steps.{Judged, step_for};
 
 use crate::board::Board;
 use crate::event::{Answer, Event};
@@ -57,6 +57,27 @@ impl Course {
             events: applied,
             room: events,
         })
+    }
+
+    /// What the event does, if the network has such an event.
+    pub(crate) fn step(&self, event: Event) -> Option<Step>
+        ensures { result ≡ step_for self.now.net event }
+    {
+        step_of(&self.net, &self.board.outs, event)
+    }
+
+    /// Whether the event may happen, with or without a hazard.
+    pub(crate) fn may(&self, event: Event) -> bool
+        ensures { IsTrue result ↔ IsEnabled self.now.net (state_of self.now) event }
+    {
+        let Some(step) = step_of(&self.net, &self.board.outs, event) else {
+            return false;
+        };
+        if step.fills {
+            self.board.can(step.node, step.port)
+        } else {
+            self.board.is_busy(step.wire)
+        }
     }
 
     /// The step that applies the event, or the answer where there is none, it may not happen, or it has a hazard.

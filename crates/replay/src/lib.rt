@@ -24,3 +24,4 @@ pub use probe::{Probe, ProbeFault};
 pub use probes::{CountProbe, PeakProbe};
 pub use replay::{Replay, Replaying};
 pub use schedule::{ScheduleRefusal, read_schedule};
+pub use step::Step;

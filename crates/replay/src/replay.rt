@@ -1,12 +1,14 @@
 //! Replays a schedule on a network, event by event.
-ghost use Rattle.std.specs.Prelude.{◌≡◌, ◌≢◌, ◌-◌, ◌≤◌, [], ◌∷◌, ◌++◌, IfOk};
+ghost use Rattle.std.specs.Prelude.{◌≡◌, ◌≢◌, ◌↔◌, ◌-◌, ◌≤◌, [], ◌∷◌, ◌++◌, IsTrue, IfOk};
 ghost use Rattle.replay.specs.declared.event.Answer.{Answer};
-ghost use Rattle.replay.specs.Answers.{IsPlayable, IsAnswer, state_of, symbols};
-ghost use Rattle.replay.specs.Probes.{views_of, seen_of, all_stepped, AllSteady};
+ghost use Rattle.replay.specs.Answers.{IsPlayable, IsAnswer, IsEnabled, state_of, symbols};
+ghost use Rattle.replay.specs.Mirror.Steps.{step_for};
+ghost use Rattle.replay.specs.Probes.{views_of, seen_of, all_stepped, one_more, AllSteady};
 
 use crate::course::Course;
 use crate::event::{Answer, Event};
 use crate::probe::Probe;
+use crate::step::Step;
 use crate::watch::{ready_all, see_all};
 use cmd_tree::Sym;
 use net_core::Net;
@@ -16,6 +18,7 @@ use std::alloc::{AllocError, Global};
 #[derive(Drop)]
 pub struct Replaying<P> {
     course: Course,
+    asked: u64,
     probes: Vec<P>,
 }
 
@@ -33,9 +36,39 @@ impl<P: Probe> Replaying<P> {
         requires { IsPlayable net }
         ensures course { IfOk result (λ replay. replay.course ≡ record { net = net; events = []; room = events }) }
         ensures probes { IfOk result (λ replay. replay.probes ≡ probes) }
+        ensures asked { IfOk result (λ replay. replay.asked ≡ 0) }
     {
         let course = Course::start(alloc, net, events)?;
-        Ok(Replaying { course, probes })
+        Ok(Replaying {
+            course,
+            asked: 0,
+            probes,
+        })
+    }
+
+    /// Whether the event may happen now, with or without a hazard: false where there is no such event. It takes no memory.
+    pub fn enabled(&mut self, event: Event) -> bool
+        ensures answer { IsTrue result ↔ IsEnabled self.old.course.net (state_of self.old.course) event }
+        ensures course { self.new.course ≡ self.old.course }
+        ensures probes { self.new.probes ≡ self.old.probes }
+        ensures asked { self.new.asked ≡ one_more self.old.asked }
+    {
+        self.asked = self.asked.saturating_add(1);
+        self.course.may(event)
+    }
+
+    /// How often `enabled` was asked since the start, up to the greatest number of 64 bits.
+    pub fn asked(&self) -> u64
+        ensures { result ≡ self.now.asked }
+    {
+        self.asked
+    }
+
+    /// What the event does, if the network has such an event.
+    pub fn step(&self, event: Event) -> Option<Step>
+        ensures { result ≡ step_for self.now.course.net event }
+    {
+        self.course.step(event)
     }
 
     /// Applies the event where it may happen, has no hazard, and each probe is ready. After any answer but `Done` the run
@@ -53,6 +86,7 @@ impl<P: Probe> Replaying<P> {
         ensures unseen { result ≢ Answer.Done → views_of P.rule P.numbers P.steady self.new.probes.items
             ≡ views_of P.rule P.numbers P.steady self.old.probes.items }
         ensures steady { AllSteady (views_of P.rule P.numbers P.steady self.old.probes.items) → result ≢ Answer.NoMemory }
+        ensures asked { self.new.asked ≡ self.old.asked }
     {
         let step = match self.course.judge(event) {
             Ok(step) => step,
@@ -78,7 +112,11 @@ impl<P: Probe> Replaying<P> {
         ensures net { result.0 ≡ self.course.net }
         ensures probes { result.1 ≡ self.probes }
     {
-        let Replaying { course, probes } = self;
+        let Replaying {
+            course,
+            asked: _,
+            probes,
+        } = self;
         (course.finish(), probes)
     }
 }

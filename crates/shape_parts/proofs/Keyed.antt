@@ -23,7 +23,7 @@ all_mapped : {A : Type 0} (f : A → ℕ) (m : ℕ) (d : A) (xs : List A) → ((
 all_mapped f m d [] h = tt
 all_mapped f m d (x ∷ xs) h = (h 0 (omega arith), all_mapped f m d xs (λ n low. h (suc n) (omega arith)))
 
-among_mapped : (f : ℕ × ℕ → ℕ) (i : ℕ) (cross : List (ℕ × ℕ)) → is_among (map f cross) i ≡ list_any (λ p. nat_eq (f p) i) cross
+pub among_mapped : (f : ℕ × ℕ → ℕ) (i : ℕ) (cross : List (ℕ × ℕ)) → is_among (map f cross) i ≡ list_any (λ p. nat_eq (f p) i) cross
 among_mapped f i [] = refl
 among_mapped f i (p ∷ ps) = ap (λ b. nat_eq (f p) i || b) (among_mapped f i ps)
 

@@ -3,4 +3,5 @@ pub mod Cuts
 pub mod Filled
 pub mod Keyed
 pub mod Labelled
+pub mod Layered
 pub mod Links

@@ -1,3 +1,4 @@
 pub mod Keys
 pub mod Cut
+pub mod Layers
 pub mod Mirror

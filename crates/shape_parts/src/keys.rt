@@ -25,7 +25,7 @@ fn crossed_rows(alloc: Global, cross: &[(u32, u32)]) -> Result<Vec<u32>, AllocEr
     cross.iter().map(|crossing| crossing.0).collect(alloc)
 }
 
-fn crossed_columns(alloc: Global, cross: &[(u32, u32)]) -> Result<Vec<u32>, AllocError>
+pub fn crossed_columns(alloc: Global, cross: &[(u32, u32)]) -> Result<Vec<u32>, AllocError>
     ensures { IfOk result (λ it. it.items ≡ map (λ p. p.1) cross.now) }
 {
     cross.iter().map(|crossing| crossing.1).collect(alloc)

@@ -7,10 +7,12 @@
 mod by_key;
 mod cut;
 mod keys;
+mod layers;
 mod marks;
 #[cfg(test)]
 mod tests;
 mod union_find;
 
 pub use cut::{ShapePart, parts};
+pub use layers::{Layer, exchanged};
 pub use union_find::labels;

@@ -32,86 +32,13 @@ use Rattle.plain_split.specs.SharedPaths.{joined}
 use Rattle.plain_split.specs.OneWait.{many}
 use Rattle.plain_split.specs.OneWaitSums.{is_component}
 use Rattle.plain_split.proofs.SharedAdmitted.{eq_flip}
+use Rattle.plain_split.proofs.SharedSorts.{iwire_sort, source_sort, fork_sort, join_sort, merge_sort, dw_sort}
 use Rattle.plain_split.proofs.SharedSums.{bit, total_append, so_none, wide_long, wide_numbers}
 use Rattle.plain_split.proofs.OneWaitKinds.{many_append, many_map, many_filter, many_same, many_none}
 use Rattle.plain_split.proofs.OneWaitWires.{map_long}
 use Rattle.plain_split.proofs.OneWaitWritten.{same_member, filter_same, same_begin}
 use Rattle.token_split.specs.TokenChart.{Name, Join, Meet, Calls, Gate, Spread, Returns, Entry, Shows, Links, links, is_kept, is_open, gate_kind, pair, spec_at, all_names, components, token_chart, listed}
 use Rattle.token_split.proofs.TokenParts.{IsPart, local_of, kind_of, shape_of, dw_is, no_crossing}
-
--- ---- the sorts of kinds
-
-iwire_sort : (k : Sort) → is_of k kind.Iwire ≡ same_sort Iwires k
-iwire_sort Wires = refl
-iwire_sort Iwires = refl
-iwire_sort Sources = refl
-iwire_sort Sinks = refl
-iwire_sort Forks = refl
-iwire_sort Joins = refl
-iwire_sort Merges = refl
-iwire_sort Toggles = refl
-iwire_sort Waits = refl
-iwire_sort Sequencers = refl
-
-source_sort : (k : Sort) → is_of k kind.Source ≡ same_sort Sources k
-source_sort Wires = refl
-source_sort Iwires = refl
-source_sort Sources = refl
-source_sort Sinks = refl
-source_sort Forks = refl
-source_sort Joins = refl
-source_sort Merges = refl
-source_sort Toggles = refl
-source_sort Waits = refl
-source_sort Sequencers = refl
-
-fork_sort : (n : ℕ) (k : Sort) → is_of k (kind.Fork n) ≡ same_sort Forks k
-fork_sort n Wires = refl
-fork_sort n Iwires = refl
-fork_sort n Sources = refl
-fork_sort n Sinks = refl
-fork_sort n Forks = refl
-fork_sort n Joins = refl
-fork_sort n Merges = refl
-fork_sort n Toggles = refl
-fork_sort n Waits = refl
-fork_sort n Sequencers = refl
-
-join_sort : (n : ℕ) (k : Sort) → is_of k (kind.C n) ≡ same_sort Joins k
-join_sort n Wires = refl
-join_sort n Iwires = refl
-join_sort n Sources = refl
-join_sort n Sinks = refl
-join_sort n Forks = refl
-join_sort n Joins = refl
-join_sort n Merges = refl
-join_sort n Toggles = refl
-join_sort n Waits = refl
-join_sort n Sequencers = refl
-
-merge_sort : (n : ℕ) (k : Sort) → is_of k (kind.Merge n) ≡ same_sort Merges k
-merge_sort n Wires = refl
-merge_sort n Iwires = refl
-merge_sort n Sources = refl
-merge_sort n Sinks = refl
-merge_sort n Forks = refl
-merge_sort n Joins = refl
-merge_sort n Merges = refl
-merge_sort n Toggles = refl
-merge_sort n Waits = refl
-merge_sort n Sequencers = refl
-
-wait_kind : (s : Shape) (k : Sort) → is_of k (kind.Dw s) ≡ same_sort Waits k
-wait_kind s Wires = refl
-wait_kind s Iwires = refl
-wait_kind s Sources = refl
-wait_kind s Sinks = refl
-wait_kind s Forks = refl
-wait_kind s Joins = refl
-wait_kind s Merges = refl
-wait_kind s Toggles = refl
-wait_kind s Waits = refl
-wait_kind s Sequencers = refl
 
 -- ---- lists of components
 
@@ -307,7 +234,7 @@ module _ (s : NodeSpec) (G : WaitGraph) (names : ℕ) (style : style_of G ≡ To
   part_sort rows columns [] h = absurd (no_crossing rows columns h)
   part_sort rows columns (c ∷ []) h = ap bit (join_sort 2 k)
   part_sort rows columns (c ∷ n ∷ cs) h =
-      ap (λ q. bit (is_of k q)) (dw_is (length rows) (length columns) (local_of (c ∷ n ∷ cs)) h.shape) ∙ ap bit (wait_kind (shape_of (length rows) (length columns) (local_of (c ∷ n ∷ cs)) h.shape) k)
+      ap (λ q. bit (is_of k q)) (dw_is (length rows) (length columns) (local_of (c ∷ n ∷ cs)) h.shape) ∙ ap bit (dw_sort (shape_of (length rows) (length columns) (local_of (c ∷ n ∷ cs)) h.shape) k)
 
   meets_are : (i : ℕ) → part_at G.waits (sums.pairs G) i ≡ map pair (g.meets i)
   meets_are i = filter_map (λ (p : ℕ × ℕ). nat_eq (label G.waits (sums.pairs G) p.0) i) pair G.crosses

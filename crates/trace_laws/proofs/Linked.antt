@@ -47,12 +47,6 @@ key_same k q h = tells_apart {R = key_cmp} (exact_pairs nat_cmp nat_cmp exact_un
 key_self : (k : Key) → is_eq (key_cmp k k) ≡ true
 key_self (a, x) = ap (λ o. is_eq (ordering_then o (nat_cmp x x))) (tied_itself nat_cmp_total a) ∙ ap is_eq (tied_itself nat_cmp_total x)
 
-pub none_followed : (W : List (List ℕ)) (at : Key → Option ℕ) → ((k : Key) → at k ≡ None) → Follow W 0 at
-none_followed W at h = record {
-  sound = λ s a i k e f. absurd (let z = sym (h (i, a)) ∙ f in cc);
-  whole = λ s a i j e l. absurd (omega (arith, l));
-}
-
 module _ (W : List (List ℕ)) (n : ℕ) (x : List ℕ) (old : Key → Option ℕ) (is : get_or W n [] ≡ x) (f : Follow W n old) where
   -- no row of the table is for x
   pub none_more : ((s : List ℕ) (a i : ℕ) → find W s ≡ Some i → x ≡ s ++ a ∷ [] → ⊥) → Follow W (n + 1) old
@@ -240,9 +234,6 @@ pushed_last (x ∷ row) e = pushed_last row e
 -- the first n places of x
 abbrev pub RowUpTo : List (List ℕ) → List ℕ → List (Option ℕ) → ℕ → Type 0
 RowUpTo W x row n = (length row ≡ n) × ((i : ℕ) → i < n → slice_get row i ≡ Some (find W (exchanged x i)))
-
-pub row_begins : (W : List (List ℕ)) (x : List ℕ) (row : List (Option ℕ)) → row ≡ [] → RowUpTo W x row 0
-row_begins W x row e = (ap length e, λ i l. absurd (omega (arith, l)))
 
 pub row_more : (W : List (List ℕ)) (x : List ℕ) (row new : List (Option ℕ)) (n : ℕ) (e : Option ℕ) → new ≡ row ++ e ∷ [] → e ≡ find W (exchanged x n)
     → RowUpTo W x row n → RowUpTo W x new (n + 1)

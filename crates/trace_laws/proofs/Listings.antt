@@ -6,9 +6,12 @@ use Rattle.std.specs.Str.{bytes_eq}
 use Rattle.std.proofs.lemmas.Bool.{cases_Bool, and_parts, ltb-true, lt-ltb, eqb-true, or_left}
 use Rattle.std.proofs.lemmas.Slice.Eq.{bytes_eq-Decides}
 use Rattle.cmd_tree.specs.Limits.{is_name, is_tail, is_letter, begins_with_letter}
-use Rattle.trace_laws.specs.ListText.{line_of, trace_line, IsLine}
-use Rattle.trace_laws.specs.Mirror.Reading.{pieces, and_then, with_names, with_header, Headed, headed, symbol_of, with_symbols, trace_of, with_traces}
-use Rattle.trace_laws.proofs.Cuts.{IsPiece, words_cut, words_back}
+use Rattle.trace_laws.specs.ListText.{trace_line, IsLine}
+use Rattle.text_lines.specs.Pieces.{line_of}
+use Rattle.trace_laws.specs.Mirror.Reading.{and_then, with_names, with_header, Headed, headed, symbol_of, with_symbols, trace_of, with_traces}
+use Rattle.text_lines.specs.Pieces.{pieces}
+use Rattle.text_lines.proofs.Cuts.{words_cut, words_back}
+use Rattle.text_lines.specs.Pieces.{IsPiece}
 use Rattle.trace_laws.proofs.Naming.{true_false, ok_err, AreNames, Put, put_names, names_put, names_line, own_place, found_name}
 
 -- ---- one step after another

@@ -232,13 +232,6 @@ first_missing W x size w o n l e f all i = record {
       let p : length w < length u = omega (arith, long, short, h) in
       later_offers w u n (inl p) (i.covers w refl)
 
-pub more_listed : (W : List (List ℕ)) (x : List ℕ) (size : ℕ) (w : List ℕ) → w ≡ take size x → Contains W w
-    → ((k : ℕ) → k < size → Contains W (take k x)) → (k : ℕ) → k < size + 1 → Contains W (take k x)
-more_listed W x size w e f all k l = by (below_or k size l) where
-  by : (k < size) ⊎ (k ≡ size) → Contains W (take k x)
-  by (inl h) = all k h
-  by (inr h) = subst (Contains W) (e ∙ sym (ap (λ j. take j x) h)) f
-
 pub all_listed : (W : List (List ℕ)) (x : List ℕ) (size : ℕ) (o : Option (List ℕ)) → length x ≤ size
     → ((k : ℕ) → k < size → Contains W (take k x)) → Improved (BeginsAt W x) o o
 all_listed W x size o l all = none_offered (BeginsAt W x) o (λ t b. b.missing (subst (Contains W) (sym b.is) (all b.size (omega (arith, b.within, l)))))

@@ -3,8 +3,9 @@ use Rattle.std.proofs.Common.{◌≡◌, ℕ, ◌+◌, List, [], ◌∷◌, ◌+
 use Rattle.std.specs.Option.{IfSome}
 use Rattle.trace_laws.specs.declared.list.TraceRefusal.{TraceRefusal}
 use Rattle.trace_laws.specs.ListText.{line_told}
-use Rattle.trace_laws.specs.Mirror.Reading.{pieces, and_then, with_header, headed, trace_of, with_traces, Tells}
-use Rattle.trace_laws.proofs.Cuts.{cut}
+use Rattle.trace_laws.specs.Mirror.Reading.{and_then, with_header, headed, trace_of, with_traces, Tells}
+use Rattle.text_lines.specs.Pieces.{pieces}
+use Rattle.text_lines.proofs.Cuts.{cut}
 
 pub headed_step : (line : ℕ) (word : List ℕ) (names : List (List ℕ)) (l rest : List ℕ)
     → headed line word names (l ∷ pieces 10 rest) ≡ and_then (with_header line word names (pieces 32 l)) (λ all. Ok (record { names = all; lines = pieces 10 rest }))

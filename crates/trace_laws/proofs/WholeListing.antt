@@ -8,9 +8,13 @@ use Rattle.std.proofs.lemmas.List.{length-map}
 use Rattle.std.proofs.lemmas.List.Splits.{join_with_byte-slice_split}
 use Rattle.cmd_tree.specs.declared.tree.Dir.{Dir}
 use Rattle.cmd_tree.specs.declared.tree.Dir.TheVariants.{Input, Output}
-use Rattle.trace_laws.specs.ListText.{line_of, text_of, trace_line, lines_of, IsLine, IsListText, Begins, IsFaultyLine}
-use Rattle.trace_laws.specs.Mirror.Reading.{pieces, and_then, Headed, headed, with_traces, trace_of, Listing, after_outputs, after_inputs, listed, listing, dirs_of}
-use Rattle.trace_laws.proofs.Cuts.{IsPiece, cut, clean_pieces, one_piece, lines_cut, lines_back, lines_rest}
+use Rattle.trace_laws.specs.ListText.{text_of, trace_line, lines_of, IsLine, IsListText, Begins, IsFaultyLine}
+use Rattle.text_lines.specs.Pieces.{line_of}
+use Rattle.trace_laws.specs.Mirror.Reading.{and_then, Headed, headed, with_traces, trace_of, Listing, after_outputs, after_inputs, listed, listing, dirs_of}
+use Rattle.text_lines.specs.Pieces.{pieces}
+use Rattle.trace_laws.proofs.ListLines.{lines_cut, lines_back, lines_rest}
+use Rattle.text_lines.proofs.Cuts.{cut, clean_pieces, one_piece}
+use Rattle.text_lines.specs.Pieces.{IsPiece}
 use Rattle.trace_laws.proofs.Naming.{ok_err, AreNames, distinct_none, distinct_front}
 use Rattle.trace_laws.proofs.Listings.{then_ok, then_err, names_pieces, words_line, header_read, read_header, refused_header, AllKnown, names_of, traces_read, read_traces, refused_traces, Header, Finished, name_at}
 

@@ -1,16 +1,13 @@
 -- The text of a list of traces, and its first faulty line.
 use Rattle.std.specs.Prelude.{◌≡◌, ◌⊎◌, ◌+◌, ◌<◌, ℕ, ◌≢◌, IsTrue, List, [], ◌∷◌, ◌++◌, length, map, replicate, codes, slice_index_or, Option, Some, None}
-use Rattle.std.specs.List.{IsDistinct, AllByRecursion, join_with_byte}
+use Rattle.std.specs.List.{IsDistinct, AllByRecursion}
 use Rattle.std.specs.Str.{bytes_eq}
 use Rattle.cmd_tree.specs.declared.tree.Dir.{Dir}
 use Rattle.cmd_tree.specs.declared.tree.Dir.TheVariants.{Input, Output}
 use Rattle.cmd_tree.specs.Limits.{is_name}
+use Rattle.text_lines.specs.Pieces.{line_of}
 use Rattle.trace_laws.specs.declared.list.TraceRefusal.{TraceRefusal}
 use Rattle.trace_laws.specs.declared.list.TraceRefusal.TheVariants as told
-
--- words, with one blank between each two
-abbrev pub line_of : List (List ℕ) → List ℕ
-line_of words = join_with_byte 32 words
 
 -- each line, and a line feed behind it
 abbrev pub text_of : List (List ℕ) → List ℕ

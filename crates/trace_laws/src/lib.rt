@@ -11,7 +11,6 @@ mod laws;
 mod least;
 mod links;
 mod list;
-mod pieces;
 mod places;
 mod projection;
 mod read;

@@ -7,13 +7,14 @@ ghost use Rattle.cmd_tree.specs.declared.tree.Dir.TheVariants.{Input, Output};
 ghost use Rattle.trace_laws.specs.declared.list.TraceRefusal.TheVariants as told;
 ghost use Rattle.trace_laws.specs.Listed.{numbers, rows};
 ghost use Rattle.trace_laws.specs.ListText.{IsListText, IsFaultyLine, line_told};
-ghost use Rattle.trace_laws.specs.Mirror.Reading.{pieces, pieces_left, left_size, with_names, with_header, headed, symbol_of, trace_of, with_traces, Listing, listing, dirs_of, Tells};
+ghost use Rattle.trace_laws.specs.Mirror.Reading.{with_names, with_header, headed, symbol_of, trace_of, with_traces, Listing, listing, dirs_of, Tells};
+ghost use Rattle.text_lines.specs.Pieces.{pieces, pieces_left, left_size};
 
 use crate::list::{TraceList, TraceRefusal};
-use crate::pieces::first_piece;
 use cmd_text::{NameTable, is_name};
 use cmd_tree::{Dir, Sym};
 use std::alloc::{AllocError, Global};
+use text_lines::first_piece;
 
 fn add_name(
     alloc: Global,

@@ -21,10 +21,3 @@ chosen_more g h f xs x i before one t =
 
 pub chosen_less : {B : Type 0} (h : ℕ → B) (f : ℕ → Bool) (ys : List B) (i : ℕ) → ys ≡ map h (filter f (range_with_len 0 i)) → f i ≡ false → ys ≡ map h (filter f (range_with_len 0 (i + 1)))
 chosen_less h f ys i before t = before ∙ ap (map h) (filter_left f i t)
-
--- what is made of those that pass a test among some, one after the other
-pub passed_step : {A B : Type 0} (h : A → B) (f : A → Bool) (ys more : List B) (x : A) (xs : List A) → f x ≡ true → more ≡ ys ++ h x ∷ [] → more ++ map h (filter f xs) ≡ ys ++ map h (filter f (x ∷ xs))
-passed_step h f ys more x xs t e = ap (λ zs. zs ++ map h (filter f xs)) e ∙ append_assoc ys (h x ∷ []) (map h (filter f xs)) ∙ ap (λ (b : Bool). ys ++ map h (cond b (x ∷ filter f xs) (filter f xs))) (sym t)
-
-pub left_step : {A B : Type 0} (h : A → B) (f : A → Bool) (ys : List B) (x : A) (xs : List A) → f x ≡ false → ys ++ map h (filter f xs) ≡ ys ++ map h (filter f (x ∷ xs))
-left_step h f ys x xs t = ap (λ (b : Bool). ys ++ map h (cond b (x ∷ filter f xs) (filter f xs))) (sym t)

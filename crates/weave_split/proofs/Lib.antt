@@ -3,7 +3,6 @@ pub mod BuiltPlaces
 pub mod BuiltSpecs
 pub mod BuiltSteps
 pub mod ProcessSymbols
-pub mod TabledGrants
 pub mod TabledRows
 pub mod TabledTies
 pub mod WeaveCharted

@@ -31,74 +31,13 @@ use Rattle.plain_split.specs.SharedPaths.{joined}
 use Rattle.plain_split.specs.OneWait.{many}
 use Rattle.plain_split.specs.OneWaitSums.{is_component}
 use Rattle.plain_split.proofs.SharedLists.{filter_among}
+use Rattle.plain_split.proofs.SharedSorts.{iwire_sort, fork_sort, join_sort, merge_sort, seq_sort}
 use Rattle.plain_split.proofs.SharedSums.{bit, total_append, so_none, wide_long}
 use Rattle.plain_split.proofs.OneWaitKinds.{many_append, many_map, many_filter}
 use Rattle.plain_split.proofs.OneWaitWires.{in_range}
 use Rattle.weave_split.specs.WeaveChart.{Name, Process, Spread, Join, Returns, Gate, Sequencer, Ties, is_kept, spec_at, woven, granting, meeting, all_names, components, weave_chart, marks_at, grants_at, begins_out, ins_in, ties}
 use Rattle.weave_split.proofs.WeaveCharted.{not_true, of_grant}
 use Rattle.weave_split.proofs.WeaveParts.{around}
-
--- ---- the sorts of kinds
-
-iwire_sort : (k : Sort) → is_of k kind.Iwire ≡ same_sort Iwires k
-iwire_sort Wires = refl
-iwire_sort Iwires = refl
-iwire_sort Sources = refl
-iwire_sort Sinks = refl
-iwire_sort Forks = refl
-iwire_sort Joins = refl
-iwire_sort Merges = refl
-iwire_sort Toggles = refl
-iwire_sort Waits = refl
-iwire_sort Sequencers = refl
-
-fork_sort : (n : ℕ) (k : Sort) → is_of k (kind.Fork n) ≡ same_sort Forks k
-fork_sort n Wires = refl
-fork_sort n Iwires = refl
-fork_sort n Sources = refl
-fork_sort n Sinks = refl
-fork_sort n Forks = refl
-fork_sort n Joins = refl
-fork_sort n Merges = refl
-fork_sort n Toggles = refl
-fork_sort n Waits = refl
-fork_sort n Sequencers = refl
-
-join_sort : (n : ℕ) (k : Sort) → is_of k (kind.C n) ≡ same_sort Joins k
-join_sort n Wires = refl
-join_sort n Iwires = refl
-join_sort n Sources = refl
-join_sort n Sinks = refl
-join_sort n Forks = refl
-join_sort n Joins = refl
-join_sort n Merges = refl
-join_sort n Toggles = refl
-join_sort n Waits = refl
-join_sort n Sequencers = refl
-
-merge_sort : (n : ℕ) (k : Sort) → is_of k (kind.Merge n) ≡ same_sort Merges k
-merge_sort n Wires = refl
-merge_sort n Iwires = refl
-merge_sort n Sources = refl
-merge_sort n Sinks = refl
-merge_sort n Forks = refl
-merge_sort n Joins = refl
-merge_sort n Merges = refl
-merge_sort n Toggles = refl
-merge_sort n Waits = refl
-merge_sort n Sequencers = refl
-
-seq_sort : (n : ℕ) (k : Sort) → is_of k (kind.Seq n) ≡ same_sort Sequencers k
-seq_sort n Wires = refl
-seq_sort n Iwires = refl
-seq_sort n Sources = refl
-seq_sort n Sinks = refl
-seq_sort n Forks = refl
-seq_sort n Joins = refl
-seq_sort n Merges = refl
-seq_sort n Toggles = refl
-seq_sort n Waits = refl
-seq_sort n Sequencers = refl
 
 -- ---- lists each of whose numbers stands once
 

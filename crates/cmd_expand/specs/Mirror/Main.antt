@@ -1,14 +1,11 @@
 -- The line of `main`, and the command that is made of it.
-use Rattle.std.specs.Prelude.{◌≡◌, ℕ, List, [], map, get_or}
+use Rattle.std.specs.Prelude.{◌≡◌, ℕ, List, [], get_or}
 use Rattle.cmd_tree.specs.declared.tree.Proc.{Proc}
 use Rattle.cmd_tree.specs.declared.command.Command.{Command}
 use Rattle.cmd_tree.specs.Limits.{IsCommand}
-use Rattle.cmd_rename.specs.Symbols.{symbols_of, renumbered}
+use Rattle.cmd_rename.specs.Symbols.{names_in, symbols_of, renumbered}
 use Rattle.cmd_expand.specs.declared.plan.Plan.{Plan}
 use Rattle.cmd_expand.specs.Mirror.Plan.{AreLines}
-
-abbrev pub names_in : List (List ℕ) → List ℕ → List (List ℕ)
-names_in names symbols = map (λ a. get_or names a []) symbols
 
 -- the lines have processes, and those of the line of this number are a command, if its symbols are numbered
 pub record IsMain (p : Plan) (of : ℕ) : Type 0 where

@@ -10,19 +10,7 @@ use Rattle.basic_kinds.specs.Kinds.{inputs_of, outputs_of, IsWide}
 use Rattle.net_core.specs.declared.spec.NodeSpec.TheVariants.{Kind as Basic}
 use Rattle.net_core.specs.Wiring.{Node}
 use Rattle.text_lines.specs.Decimals.{value_of}
-
--- the bytes, cut at each c
-abbrev pub pieces : ℕ → List ℕ → List (List ℕ)
-pieces c bytes = slice_split (λ b. b == c) bytes
-
--- of what is left behind a cut, if there is one
-abbrev pub pieces_left : ℕ → Option (List ℕ) → List (List ℕ)
-pieces_left c None = []
-pieces_left c (Some bytes) = pieces c bytes
-
-abbrev pub left_size : Option (List ℕ) → ℕ
-left_size None = 0
-left_size (Some bytes) = length bytes + 1
+use Rattle.text_lines.specs.Pieces.{pieces}
 
 -- the number that is written as this word, below the bound
 abbrev pub number_of : ℕ → List ℕ → Option ℕ

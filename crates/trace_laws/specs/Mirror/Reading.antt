@@ -1,27 +1,14 @@
 -- Mirror of the reader of trace lists: each function gives what was read, or the number of the line that is refused.
 use Rattle.std.specs.Prelude.{◌≡◌, ℕ, ◌+◌, ◌==◌, ◌&&◌, nat_lt, nat_le, replicate, ◌-◌, List, [], ◌∷◌, ◌++◌, length, codes, Option, Some, None, Result, Ok, Err, if◌then◌else◌, IfSome}
-use Rattle.std.specs.List.{slice_split, position_or_len}
+use Rattle.std.specs.List.{position_or_len}
 use Rattle.std.specs.Str.{bytes_eq}
 use Rattle.indexmap.specs.IndexSet.{insert_key}
 use Rattle.cmd_tree.specs.declared.tree.Dir.{Dir}
 use Rattle.cmd_tree.specs.declared.tree.Dir.TheVariants.{Input, Output}
 use Rattle.cmd_tree.specs.Limits.{is_name}
+use Rattle.text_lines.specs.Pieces.{pieces}
 use Rattle.trace_laws.specs.declared.list.TraceRefusal.{TraceRefusal}
 use Rattle.trace_laws.specs.ListText.{line_told}
-
--- the bytes, cut at each c
-abbrev pub pieces : ℕ → List ℕ → List (List ℕ)
-pieces c bytes = slice_split (λ b. b == c) bytes
-
--- of what is left behind a cut, if there is one
-abbrev pub pieces_left : ℕ → Option (List ℕ) → List (List ℕ)
-pieces_left c None = []
-pieces_left c (Some bytes) = pieces c bytes
-
--- the bytes that are left, and the cut before them
-abbrev pub left_size : Option (List ℕ) → ℕ
-left_size None = 0
-left_size (Some bytes) = length bytes + 1
 
 abbrev pub and_then : {A B : Type 0} → Result A ℕ → (A → Result B ℕ) → Result B ℕ
 and_then (Ok a) f = f a

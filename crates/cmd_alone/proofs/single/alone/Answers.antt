@@ -5,8 +5,7 @@ use Rattle.std.specs.Str.{bytes_eq}
 use Rattle.std.proofs.lemmas.Option.{slice_get-get_or}
 use Rattle.cmd_tree.specs.declared.tree.Proc.{Proc}
 use Rattle.cmd_tree.specs.Limits.{IsCommand}
-use Rattle.cmd_rename.specs.Symbols.{symbols_of, renumbered}
-use Rattle.cmd_alone.specs.Alone.{names_in}
+use Rattle.cmd_rename.specs.Symbols.{names_in, symbols_of, renumbered}
 use Rattle.cmd_alone.proofs.Valid.{few_symbols, names_apart, valid, by_ranks}
 use Rattle.cmd_alone.proofs.single.alone.Goals as goal
 
@@ -19,15 +18,16 @@ symbol_names-requires c =
     let p = c.index-as_slice-index.result in
     let names = c.args.command.now.names in
     let place = placed c.as_slice.result.now c.args.command.now.procs c.args.index p c.requires c.as_slice.ensures c.index-as_slice-index.is in
-    subst (λ (xs : List ℕ). IsDistinct bytes_eq (names_in names xs)) (sym (c.as_slice-2.ensures.value ∙ c.in_ok-symbols.ensures))
-    (names_apart names c.args.command.now.procs c.args.index p c.args.command.now.valid place)
+    subst (λ (ns : List (List ℕ)). IsDistinct bytes_eq (names_in ns c.as_slice-3.result.now)) (sym c.as_slice-2.ensures)
+    (subst (λ (xs : List ℕ). IsDistinct bytes_eq (names_in names xs)) (sym (c.as_slice-3.ensures.value ∙ c.in_ok-symbols.ensures))
+    (names_apart names c.args.command.now.procs c.args.index p c.args.command.now.valid place))
 
 pub ranks_of-requires : goal.ranks_of-requires
 ranks_of-requires c =
     let p = c.index-as_slice-index.result in
     let place = placed c.as_slice.result.now c.args.command.now.procs c.args.index p c.requires c.as_slice.ensures c.index-as_slice-index.is in
     let few = few_symbols c.args.command.now.names c.args.command.now.procs c.args.index p c.args.command.now.valid place in
-    let long : length c.as_slice-3.result.now ≡ length (symbols_of (p ∷ [])) = ap length (c.as_slice-3.ensures.value ∙ c.in_ok-symbols.ensures) in
+    let long : length c.as_slice-4.result.now ≡ length (symbols_of (p ∷ [])) = ap length (c.as_slice-4.ensures.value ∙ c.in_ok-symbols.ensures) in
     omega (arith, few, long)
 
 pub invariant_of-result : goal.invariant_of-result
@@ -35,10 +35,10 @@ invariant_of-result c =
     let p = c.index-as_slice-index.result in
     let names = c.args.command.now.names in
     let place = placed c.as_slice.result.now c.args.command.now.procs c.args.index p c.requires c.as_slice.ensures c.index-as_slice-index.is in
-    let named : c.in_ok-names.names ≡ names_in names (symbols_of (p ∷ [])) = c.in_ok-names.ensures ∙ ap (names_in names) (c.as_slice-2.ensures.value ∙ c.in_ok-symbols.ensures) in
+    let named : c.in_ok-names.names ≡ names_in names (symbols_of (p ∷ [])) = c.in_ok-names.ensures ∙ ap (λ (ns : List (List ℕ)). names_in ns c.as_slice-3.result.now) c.as_slice-2.ensures ∙ ap (names_in names) (c.as_slice-3.ensures.value ∙ c.in_ok-symbols.ensures) in
     let procs : c.push.new.self ≡ renumbered (p ∷ [])
     = c.in_ok-push.ensures.ok ∙ (λ k. c.new-procs.ensures k ++ c.in_ok-copy.ensures k ∷ [])
-    ∙ by_ranks c.in_ok-ranks.ranks p c.as_slice-3.result.now (c.as_slice-3.ensures.value ∙ c.in_ok-symbols.ensures) c.in_ok-ranks.ensures in
+    ∙ by_ranks c.in_ok-ranks.ranks p c.as_slice-4.result.now (c.as_slice-4.ensures.value ∙ c.in_ok-symbols.ensures) c.in_ok-ranks.ensures in
     record {
       valid = subst (λ (ns : List (List ℕ)). IsCommand ns c.push.new.self) (sym named)
           (subst (λ (ps : List Proc). IsCommand (names_in names (symbols_of (p ∷ []))) ps) (sym procs) (valid names c.args.command.now.procs c.args.index p c.args.command.now.valid place));
@@ -52,6 +52,6 @@ returns c =
       process = p;
       place = placed c.as_slice.result.now c.args.command.now.procs c.args.index p c.requires c.as_slice.ensures c.index-as_slice-index.is;
       procs = c.in_ok-push.ensures.ok ∙ (λ k. c.new-procs.ensures k ++ c.in_ok-copy.ensures k ∷ [])
-          ∙ by_ranks c.in_ok-ranks.ranks p c.as_slice-3.result.now (c.as_slice-3.ensures.value ∙ c.in_ok-symbols.ensures) c.in_ok-ranks.ensures;
-      names = c.in_ok-names.ensures ∙ ap (names_in names) (c.as_slice-2.ensures.value ∙ c.in_ok-symbols.ensures);
+          ∙ by_ranks c.in_ok-ranks.ranks p c.as_slice-4.result.now (c.as_slice-4.ensures.value ∙ c.in_ok-symbols.ensures) c.in_ok-ranks.ensures;
+      names = c.in_ok-names.ensures ∙ ap (λ (ns : List (List ℕ)). names_in ns c.as_slice-3.result.now) c.as_slice-2.ensures ∙ ap (names_in names) (c.as_slice-3.ensures.value ∙ c.in_ok-symbols.ensures);
     }

@@ -8,7 +8,7 @@ use Rattle.cmd_rename.specs.Symbols.{symbols_of, renumbered}
 use Rattle.cmd_expand.specs.Names.{all_names, IsFactorIn}
 use Rattle.cmd_expand.specs.Expansion.{definition, body, defined_by, name_of, last_of, command_of, refused_of}
 use Rattle.cmd_expand.specs.Mirror.Plan.{procs_known, procs_of_parts, AreLines}
-use Rattle.cmd_expand.specs.Mirror.Main.{names_in}
+use Rattle.cmd_rename.specs.Symbols.{names_in}
 use Rattle.cmd_expand.proofs.Uses.{if_some_map, last_more, last_wrong, last_main}
 use Rattle.cmd_expand.proofs.Pushed.{plan_exact, lines_pushed, get_last, all_at, all_first, all_second}
 use Rattle.cmd_expand.proofs.Listed.{all_listed}

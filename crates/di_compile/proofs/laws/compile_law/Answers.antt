@@ -9,8 +9,8 @@ use Rattle.di_compile.proofs.laws.compile_law.Goals as goal
 
 only_memory : (basis : Basis) (ps : List Proc) → IsBuilt basis ps → (r : CompileRefusal) → IsRefused basis ps r → r ≡ NoMemory
 only_memory basis ps built (Broken b) is = absurd (broken_not_admitted ps b is built.admitted)
-only_memory basis ps built NotThisForm is = absurd (is.1 built.wide)
-only_memory basis ps built (TooManyComponents n) (admitted, w, more, e) = absurd (omega (arith, built.few, more, e))
+only_memory basis ps built NotThisForm is = absurd (is.1 built.form)
+only_memory basis ps built (TooManyComponents n) (admitted, form, more, e) = absurd (omega (arith, built.few, more, e))
 only_memory basis ps built NoMemory is = refl
 
 one_reason : (basis : Basis) (ps : List Proc) (a b : CompileRefusal) → IsRefused basis ps a → IsRefused basis ps b → (a ≡ NoMemory → ⊥) → (b ≡ NoMemory → ⊥) → a ≡ b

@@ -3,7 +3,7 @@ use Rattle.std.specs.Prelude.{is_some, IfSome, codes}
 use Rattle.std.specs.Option.{option_copied}
 use Rattle.cmd_text.specs.Canonical.{procs_text}
 use Rattle.di_grammar.specs.Admitted.{Answer}
-use Rattle.net_text.specs.Mirror.PartWords.{pieces_left}
+use Rattle.text_lines.specs.Pieces.{pieces_left}
 use Rattle.net_text.proofs.NetLines.{no_spec_word, no_spec_text, no_command, spec_is, spec_refused, same_line, other_line}
 use Rattle.net_text.proofs.header.read_spec.Goals as goal
 

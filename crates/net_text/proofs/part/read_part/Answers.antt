@@ -2,7 +2,8 @@ use Rattle.std.proofs.Common.{◌≡◌, Some, ap, subst}
 use Rattle.std.specs.Prelude.{IfSome, is_some}
 use Rattle.std.specs.Option.{option_copied}
 use Rattle.net_text.specs.NetFault.{IsPartLine, IsNoPartLine}
-use Rattle.net_text.specs.Mirror.PartWords.{pieces_left, ends_in, Wait, wait_in, IsPlainPart, IsWaitPart, IsNoWaitPart}
+use Rattle.net_text.specs.Mirror.PartWords.{ends_in, Wait, wait_in, IsPlainPart, IsWaitPart, IsNoWaitPart}
+use Rattle.text_lines.specs.Pieces.{pieces_left}
 use Rattle.net_text.proofs.PartLines.{plain_back, wait_part_back, plain_unread, plain_none, wait_unread, wait_none, named_so, named_else, some_more, ok_some_more, ok_none_more}
 use Rattle.net_text.proofs.part.read_part.Goals as goal
 

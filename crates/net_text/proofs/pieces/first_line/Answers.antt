@@ -1,6 +1,6 @@
 use Rattle.std.proofs.Common.{◌∷◌, ◌∙◌, ap}
 use Rattle.std.specs.Option.{option_copied}
-use Rattle.net_text.specs.Mirror.PartWords.{pieces_left}
+use Rattle.text_lines.specs.Pieces.{pieces_left}
 use Rattle.net_text.proofs.NetLines.{line_back, last_back}
 use Rattle.net_text.proofs.pieces.first_line.Goals as goal
 

@@ -1,6 +1,7 @@
 use Rattle.std.proofs.Common.{◌≡◌, ◌≤◌}
 use Rattle.std.specs.Option.{option_copied}
-use Rattle.net_text.specs.Mirror.PartWords.{pieces_left, left_size, crossings_in}
+use Rattle.net_text.specs.Mirror.PartWords.{crossings_in}
+use Rattle.text_lines.specs.Pieces.{pieces_left, left_size}
 use Rattle.net_text.proofs.wait.add_crossings.Given as goal
 
 abbrev pub invariant-loop-rest : goal.invariant-loop-rest

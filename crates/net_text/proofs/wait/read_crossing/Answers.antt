@@ -1,6 +1,6 @@
 use Rattle.std.proofs.Common.{◌∷◌, sym, ◌∙◌, ap}
 use Rattle.std.specs.Option.{option_copied}
-use Rattle.net_text.specs.Mirror.PartWords.{pieces_left}
+use Rattle.text_lines.specs.Pieces.{pieces_left}
 use Rattle.net_text.proofs.Crossings.{crossing_long}
 use Rattle.net_text.proofs.wait.read_crossing.Goals as goal
 

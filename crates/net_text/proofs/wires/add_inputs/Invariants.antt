@@ -1,6 +1,7 @@
 use Rattle.std.proofs.Common.{◌≡◌, ◌+◌, ◌≤◌, length}
 use Rattle.std.specs.Option.{option_copied}
-use Rattle.net_text.specs.Mirror.PartWords.{pieces_left, left_size, inputs_in}
+use Rattle.net_text.specs.Mirror.PartWords.{inputs_in}
+use Rattle.text_lines.specs.Pieces.{pieces_left, left_size}
 use Rattle.net_text.proofs.wires.add_inputs.Given as goal
 
 abbrev pub invariant-loop-rest : goal.invariant-loop-rest

@@ -1,6 +1,7 @@
 use Rattle.std.proofs.Common.{◌≡◌, ◌+◌, ◌≤◌, length}
 use Rattle.std.specs.Option.{option_copied}
-use Rattle.net_text.specs.Mirror.PartWords.{pieces_left, left_size, numbers_in}
+use Rattle.net_text.specs.Mirror.PartWords.{numbers_in}
+use Rattle.text_lines.specs.Pieces.{pieces_left, left_size}
 use Rattle.net_text.proofs.wires.add_numbers.Given as goal
 
 abbrev pub invariant-loop-rest : goal.invariant-loop-rest

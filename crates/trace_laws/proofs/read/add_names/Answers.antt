@@ -1,7 +1,8 @@
 use Rattle.std.proofs.Common.{◌≡◌, ◌∷◌, ◌∙◌, sym, ap, subst}
 use Rattle.std.specs.Option.{option_copied}
 use Rattle.std.proofs.lemmas.Result.{err_from_is_err_and}
-use Rattle.trace_laws.specs.Mirror.Reading.{pieces_left, with_names, Tells}
+use Rattle.trace_laws.specs.Mirror.Reading.{with_names, Tells}
+use Rattle.text_lines.specs.Pieces.{pieces_left}
 use Rattle.trace_laws.proofs.read.add_names.Goals as goal
 
 pub returns-in_err-add_name-clause-err : goal.returns-in_err-add_name-clause-err

@@ -1,6 +1,7 @@
 use Rattle.std.proofs.Common.{◌≡◌, ◌+◌, ◌≤◌, length}
 use Rattle.std.specs.Option.{option_copied}
-use Rattle.trace_laws.specs.Mirror.Reading.{pieces_left, left_size, with_names}
+use Rattle.trace_laws.specs.Mirror.Reading.{with_names}
+use Rattle.text_lines.specs.Pieces.{pieces_left, left_size}
 use Rattle.trace_laws.proofs.read.add_names.Given as goal
 
 abbrev pub invariant-loop-rest : goal.invariant-loop-rest

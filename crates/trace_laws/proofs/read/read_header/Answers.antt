@@ -1,7 +1,8 @@
 use Rattle.std.proofs.Common.{◌≡◌, ◌∷◌, Ok, Bor, List, ℕ, ◌∙◌, sym, ap, subst}
 use Rattle.std.specs.Option.{option_copied}
 use Rattle.std.proofs.lemmas.Result.{err_from_is_err_and}
-use Rattle.trace_laws.specs.Mirror.Reading.{pieces, pieces_left, and_then, with_header, headed, Tells}
+use Rattle.trace_laws.specs.Mirror.Reading.{and_then, with_header, headed, Tells}
+use Rattle.text_lines.specs.Pieces.{pieces, pieces_left}
 use Rattle.trace_laws.proofs.Turns.{headed_step, tells_then}
 use Rattle.trace_laws.proofs.read.read_header.Goals as goal
 

@@ -2,7 +2,8 @@ use Rattle.std.proofs.Common.{◌≡◌, ◌-◌, ◌++◌, [], Ok, length, repl
 use Rattle.std.specs.Prelude.{codes}
 use Rattle.cmd_tree.specs.declared.tree.Dir.TheVariants.{Input, Output}
 use Rattle.trace_laws.specs.Listed.{rows}
-use Rattle.trace_laws.specs.Mirror.Reading.{pieces, headed}
+use Rattle.trace_laws.specs.Mirror.Reading.{headed}
+use Rattle.text_lines.specs.Pieces.{pieces}
 use Rattle.trace_laws.proofs.WholeListing.{parts_read, names_grow}
 use Rattle.trace_laws.proofs.read.read_list.Goals as goal
 

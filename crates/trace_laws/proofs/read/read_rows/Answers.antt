@@ -3,7 +3,8 @@ use Rattle.std.specs.Option.{option_copied, IfSome}
 use Rattle.std.proofs.lemmas.List.{map-append}
 use Rattle.std.proofs.lemmas.Result.{err_from_is_err_and}
 use Rattle.trace_laws.specs.Listed.{numbers, rows}
-use Rattle.trace_laws.specs.Mirror.Reading.{pieces, pieces_left, and_then, trace_of, with_traces, Tells}
+use Rattle.trace_laws.specs.Mirror.Reading.{and_then, trace_of, with_traces, Tells}
+use Rattle.text_lines.specs.Pieces.{pieces, pieces_left}
 use Rattle.trace_laws.proofs.Turns.{traces_step, tells_then}
 use Rattle.trace_laws.proofs.read.read_rows.Goals as goal
 

@@ -1,6 +1,7 @@
 use Rattle.std.proofs.Common.{◌≡◌, ◌+◌, ◌≤◌, [], length}
 use Rattle.trace_laws.specs.Listed.{rows}
-use Rattle.trace_laws.specs.Mirror.Reading.{pieces, with_traces}
+use Rattle.trace_laws.specs.Mirror.Reading.{with_traces}
+use Rattle.text_lines.specs.Pieces.{pieces}
 use Rattle.trace_laws.proofs.read.read_rows.Given as goal
 
 abbrev pub invariant-loop-more : goal.invariant-loop-more

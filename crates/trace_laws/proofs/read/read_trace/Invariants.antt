@@ -1,7 +1,8 @@
 use Rattle.std.proofs.Common.{◌≡◌, []}
 use Rattle.std.specs.Option.{option_copied}
 use Rattle.trace_laws.specs.Listed.{numbers}
-use Rattle.trace_laws.specs.Mirror.Reading.{pieces, pieces_left, left_size, with_symbols}
+use Rattle.trace_laws.specs.Mirror.Reading.{with_symbols}
+use Rattle.text_lines.specs.Pieces.{pieces, pieces_left, left_size}
 use Rattle.trace_laws.proofs.read.read_trace.Given as goal
 
 abbrev pub invariant-loop-rest : goal.invariant-loop-rest

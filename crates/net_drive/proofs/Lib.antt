@@ -1,0 +1,10 @@
+pub mod SumTrees
+pub mod Listing
+pub mod Changing
+pub mod Numbers
+pub mod Refreshed
+pub mod Updated
+pub mod Once
+pub mod OnWay
+pub mod Planned
+pub mod Listed

@@ -1,0 +1,4 @@
+pub mod Bits
+pub mod Drawn
+pub mod Changes
+pub mod Mirror

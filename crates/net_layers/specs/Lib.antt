@@ -1,0 +1,2 @@
+pub mod TwoWayNets
+pub mod Mirror

@@ -1,0 +1,2 @@
+-- What the code has in hand: nobody has to believe it.
+pub mod Laid
