@@ -1,23 +1,65 @@
 //! Whole calls: words in, bytes out.
 use di_io::{MemShelf, MemSink};
 use di_top::{Outcome, run};
+use replay::{CountProbe, PeakProbe, Probe};
 use std::alloc::Global;
 use std::test::Fail;
 
-/// What a call did.
+/// What a call did, and how many probes it handed back.
 #[derive(Drop)]
 pub struct Ran {
     pub outcome: Outcome,
     pub out: MemSink,
     pub say: MemSink,
+    pub back: usize,
 }
 
-fn split_words(alloc: Global, text: &str) -> Result<Vec<String>, Fail> {
+pub fn split_words(alloc: Global, text: &str) -> Result<Vec<String>, Fail> {
     let mut words = Vec::new(alloc);
     for word in text.split(' ') {
         words.push(String::from_str(alloc, word)?)?;
     }
     Ok(words)
+}
+
+// A shelf with these names and contents, whose loads of these numbers fail.
+pub fn shelf_of(
+    alloc: Global,
+    contents: &[(&str, &str)],
+    fails: Vec<u64>,
+) -> Result<MemShelf, Fail> {
+    let mut files = Vec::new(alloc);
+    for (name, content) in contents {
+        let name = String::from_str(alloc, name)?;
+        files.push((name, Vec::from_slice(alloc, content.as_bytes())?))?;
+    }
+    Ok(MemShelf::new(files, fails))
+}
+
+// Calls with these words and two probes, as the program does. Puts on out fail as told.
+pub fn call_on(
+    alloc: Global,
+    words: &str,
+    shelf: MemShelf,
+    fails: Vec<(u64, usize)>,
+) -> Result<Ran, Fail> {
+    let words = split_words(alloc, words)?;
+    let mut shelf = shelf;
+    let mut out = MemSink::new(alloc, 2_000_000, fails)?;
+    let mut say = MemSink::new(alloc, 1000, Vec::new(alloc))?;
+    let count = Box::new(alloc, CountProbe::new())?;
+    let peak = Box::new(alloc, PeakProbe::new())?;
+    let mut probes: Vec<Box<dyn Probe>> = Vec::new(alloc);
+    if probes.push(count).is_err() || probes.push(peak).is_err() {
+        return Err(Fail::new("no memory"));
+    }
+    let (outcome, back) = run(alloc, &words, &mut shelf, &mut out, &mut say, probes);
+    Ok(Ran {
+        outcome,
+        out,
+        say,
+        back: back.len(),
+    })
 }
 
 // Calls with these words. The file F has this content, or there is none. Puts on out fail as told.
@@ -27,17 +69,11 @@ pub fn call(
     content: Option<&str>,
     fails: Vec<(u64, usize)>,
 ) -> Result<Ran, Fail> {
-    let words = split_words(alloc, words)?;
-    let mut files = Vec::new(alloc);
-    if let Some(content) = content {
-        let name = String::from_str(alloc, "F")?;
-        files.push((name, Vec::from_slice(alloc, content.as_bytes())?))?;
-    }
-    let mut shelf = MemShelf::new(files, Vec::new(alloc));
-    let mut out = MemSink::new(alloc, 400_000, fails)?;
-    let mut say = MemSink::new(alloc, 1000, Vec::new(alloc))?;
-    let outcome = run(alloc, &words, &mut shelf, &mut out, &mut say);
-    Ok(Ran { outcome, out, say })
+    let shelf = match content {
+        None => shelf_of(alloc, &[], Vec::new(alloc))?,
+        Some(content) => shelf_of(alloc, &[("F", content)], Vec::new(alloc))?,
+    };
+    call_on(alloc, words, shelf, fails)
 }
 
 const USAGE: &str =
@@ -122,6 +158,7 @@ fn answers(rt: HostRuntime) -> Result<(), Fail> {
         assert!(rt; ran.out.bytes() == out.as_bytes(), "{words}");
         assert!(rt; ran.say.bytes() == say.as_bytes(), "{words}");
         assert_eq!(rt; ran.outcome.status(), status);
+        assert_eq!(rt; ran.back, 0);
     }
     Ok(())
 }

@@ -1,12 +1,28 @@
 //! Whole calls that compile: one process, and weaves of several.
 use crate::calls::{Ran, call, many_processes, repeated};
+use cmd_tree::MAX_NETLIST_BYTES;
+use di_io::MemSink;
 use di_top::Outcome;
+use net_text::{read_net, write_net};
 use std::alloc::Global;
 use std::process::Abort;
 use std::test::Fail;
 
 fn compile(alloc: Global, text: &str) -> Result<Ran, Fail> {
     call(alloc, "compile wide F", Some(text), Vec::new(alloc))
+}
+
+// Whether the netlist is read, and its network put again gives the same bytes.
+pub fn is_put_again(alloc: Global, bytes: &[u8]) -> Result<bool, Fail> {
+    if bytes.len() > MAX_NETLIST_BYTES {
+        return Ok(false);
+    }
+    let Ok(net) = read_net(alloc, bytes) else {
+        return Ok(false);
+    };
+    let mut sink = MemSink::new(alloc, bytes.len(), Vec::new(alloc))?;
+    let result = write_net(&net, &mut sink);
+    Ok(result.is_ok() && sink.bytes() == bytes)
 }
 
 // Commands, and what their netlists have behind the line of the command.
@@ -17,6 +33,7 @@ fn compile_each(rt: &impl Abort, alloc: Global, rows: &[(&str, &str)]) -> Result
         let netlist = format!(in alloc; "dinet 1\nspec {command}\n{lines}")?;
         assert!(rt; ran.out.bytes() == netlist.as_bytes(), "{command}");
         assert!(rt; ran.say.bytes().is_empty(), "{command}");
+        assert!(rt; is_put_again(alloc, ran.out.bytes())?, "{command}");
         assert_eq!(rt; ran.outcome, Outcome::Done);
     }
     Ok(())
@@ -97,6 +114,7 @@ fn compiles_many_processes(rt: HostRuntime) -> Result<(), Fail> {
     let ran = compile(alloc, text.as_str())?;
     assert_eq!(rt; ran.outcome, Outcome::Done);
     assert_eq!(rt; lines_of(ran.out.bytes(), b"WIRE "), 256);
+    assert!(rt; is_put_again(alloc, ran.out.bytes())?);
     Ok(())
 }
 
@@ -118,13 +136,14 @@ fn compiles_nested_choices(rt: HostRuntime) -> Result<(), Fail> {
     let ran = compile(alloc, text.as_str())?;
     assert_eq!(rt; ran.outcome, Outcome::Done);
     assert!(rt; ran.out.bytes().ends_with(b" 61 62 63 64 > 65\nend\n"));
+    assert!(rt; is_put_again(alloc, ran.out.bytes())?);
     let text = nested_choice(alloc, 65)?;
     let ran = compile(alloc, text.as_str())?;
     assert!(rt; ran.say.bytes() == b"refused depth at 78\n".as_slice());
     Ok(())
 }
 
-fn lines_of(bytes: &[u8], kind: &[u8]) -> usize {
+pub fn lines_of(bytes: &[u8], kind: &[u8]) -> usize {
     let mut count: usize = 0;
     for line in bytes.split(|byte| *byte == b'\n') {
         if line.starts_with(kind) {
@@ -144,6 +163,7 @@ fn compiles_many_rounds(rt: HostRuntime) -> Result<(), Fail> {
     assert_eq!(rt; lines_of(ran.out.bytes(), b"TOGGLE "), 4095);
     assert_eq!(rt; lines_of(ran.out.bytes(), b"MERGE "), 1);
     assert_eq!(rt; lines_of(ran.out.bytes(), b""), 4102);
+    assert!(rt; is_put_again(alloc, ran.out.bytes())?);
     Ok(())
 }
 
@@ -157,5 +177,6 @@ fn compiles_many_rounds_with_a_token(rt: HostRuntime) -> Result<(), Fail> {
     assert_eq!(rt; lines_of(ran.out.bytes(), b"DW 4095 1 "), 1);
     assert_eq!(rt; lines_of(ran.out.bytes(), b"FORK "), 4095);
     assert_eq!(rt; lines_of(ran.out.bytes(), b""), 4104);
+    assert!(rt; is_put_again(alloc, ran.out.bytes())?);
     Ok(())
 }

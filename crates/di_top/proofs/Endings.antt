@@ -1,17 +1,21 @@
 -- What is promised of a call, from the way in which it ended.
 use Rattle.std.proofs.Common.{◌≡◌, ◌≢◌, ◌<◌, ℕ, List, Option, Some, None, arith, refl, sym, ◌∙◌, subst, inl, inr}
-use Rattle.std.specs.Prelude.{◌⊎◌}
+use Rattle.std.specs.Prelude.{◌⊎◌, []}
+use Rattle.cmd_tree.specs.declared.limits.TheConstants.{MAX_FILE_BYTES}
+use Rattle.replay.specs.Probes.{View}
+use Rattle.count_sum.specs.declared.counts.Basis.{Basis}
+use Rattle.net_text.proofs.CommandLine.{AreRead}
 use Rattle.di_top.specs.declared.outcome.Outcome.{Outcome}
 use Rattle.di_top.specs.declared.outcome.Outcome.TheVariants.{Done, Usage, WriteFault, NoMemory}
-use Rattle.di_top.specs.Requests.{Request, CompileWide, files_of}
+use Rattle.di_top.specs.Requests.{Request, Compile, files_of}
 use Rattle.di_top.specs.Calls.{Reading, Change, Quiet, Tells, Failed, Unchanged, Gained, GainedFront}
 use Rattle.di_top.specs.CommandFiles.{IsAdmittedText, IsSuited}
 use Rattle.di_top.specs.CompileForm.{Compiles, CompileAdmits}
-use Rattle.di_top.specs.Outcomes.{FormGives, Gives, Prints, Admits}
+use Rattle.di_top.specs.Outcomes.{FormGives, Gives, Admits}
 use Rattle.di_top.specs.Plans.{IsStop}
-use Rattle.di_top.specs.Say.{say_line}
-use Rattle.di_top.specs.Ends.{Spoke, Spoken, Broken, Ends, Finished, Stopped, Cut}
-use Rattle.di_top.specs.Promised.{Promise, CutLine, CanRise}
+use Rattle.di_top.specs.Say.{Wording, say_line, by_line}
+use Rattle.di_top.specs.Ends.{Spoke, Spoken, Broken, Ends, Finished, Stopped, Cut, Finishes, Halts}
+use Rattle.di_top.specs.Promised.{Promise, Said, CutLine, CanRise}
 use Rattle.di_top.specs.Headline.{Faultless, Headline, Appended}
 use Rattle.di_top.proofs.Loads.{loaded_whole, some_same}
 use Rattle.di_top.proofs.FormAnswers.{gives_admitted, one_answer, admits_told, admits_gives}
@@ -25,10 +29,10 @@ stop_not_fault : (o : Outcome) → IsStop o → o ≢ WriteFault
 stop_not_fault o s e = let P : Outcome → Type 0 = IsStop in subst P e s
 
 -- a call that answers what its form gives answers the one outcome that it gives, or that memory is missing
-answered : (request : Option Request) (r : Reading) (stop outcome : Outcome) → outcome ≡ stop → Gives request r stop → Tells r (files_of request)
+answered : AreRead → (request : Option Request) (r : Reading) (stop outcome : Outcome) → outcome ≡ stop → Gives request r stop → Tells r (files_of request)
     → Quiet r (files_of request) → (answer : Outcome) → FormGives request r answer → (outcome ≡ NoMemory) ⊎ (outcome ≡ answer)
-answered request r stop outcome e (inl m) t q answer h = inl (e ∙ m)
-answered request r stop outcome e (inr g) t q answer h = inr (e ∙ one_answer request r t q stop answer g h)
+answered law request r stop outcome e (inl m) t q answer h = inl (e ∙ m)
+answered law request r stop outcome e (inr g) t q answer h = inr (e ∙ one_answer law request r t q stop answer g h)
 
 -- a count that stayed did not rise
 still : (c : Change) → Unchanged c → CanRise c → Failed c → ⊥
@@ -38,63 +42,71 @@ no_rise : (c : Change) → Unchanged c → c.before < c.now → ⊥
 no_rise c u h = omega (arith, u.1)
 
 -- the line of what stopped a call, or a front of it
-spoke_line : (request : Option Request) (r : Reading) (say : Change) (stop outcome : Outcome) → IsStop stop → Gives request r stop
-    → Spoke stop say outcome → CutLine request r say
-spoke_line request r say stop outcome s g (Spoken e said) = record {
+spoke_line : (request : Option Request) (r : Reading) (say : Change) (stop outcome : Outcome) (wording : Wording) → Halts request r stop wording
+    → Spoke stop wording say outcome → CutLine request r say
+spoke_line request r say stop outcome wording h (Spoken e said) = record {
   stop = stop;
-  stopped = stop_not_done stop s;
-  unbroken = stop_not_fault stop s;
-  gives = g;
-  gained = front_whole say.old say.new (say_line stop) said;
+  stopped = stop_not_done stop h.stops;
+  unbroken = stop_not_fault stop h.stops;
+  gives = h.gives;
+  wording = wording;
+  named = h.named;
+  gained = front_whole say.old say.new (say_line wording stop) said;
 }
-spoke_line request r say stop outcome s g (Broken e f said) = record {
+spoke_line request r say stop outcome wording h (Broken e f said) = record {
   stop = stop;
-  stopped = stop_not_done stop s;
-  unbroken = stop_not_fault stop s;
-  gives = g;
+  stopped = stop_not_done stop h.stops;
+  unbroken = stop_not_fault stop h.stops;
+  gives = h.gives;
+  wording = wording;
+  named = h.named;
   gained = said;
 }
 
-finished : (request : Option Request) (r : Reading) (out say : Change) (outcome : Outcome) (text : List ℕ) → outcome ≡ Done
-    → Gives request r Done → Prints request r text → Gained out text → Unchanged say → Promise request r out say outcome
-finished request r out say outcome text e g p gained u =
+finished : AreRead → (request : Option Request) (r : Reading) (out say : Change) (back : List View) (outcome : Outcome) (text : List ℕ) → outcome ≡ Done
+    → Finishes request r text back → Gained out text → Unchanged say → Promise request r out say back outcome
+finished law request r out say back outcome text e f gained u =
     let P : Outcome → Type 0 = λ o. Gives request r o in
     record {
-      order = inr (subst P (sym e) g);
+      order = inr (subst P (sym e) f.gives);
       write_fault = λ w. absurd (cc);
       stopped = λ n w. absurd (n e);
-      done = λ d. (record { text = text; prints = p; gained = gained }, u);
+      done = λ d. (record { text = text; prints = f.prints; hands = f.hands; gained = gained }, u);
+      none_back = λ n. absurd (n e);
       partial = λ w. absurd (cc);
       table = λ w a b. absurd (cc);
-      out_rises = λ h. g;
+      out_rises = λ h. f.gives;
       say_rises = λ h. absurd (no_rise say u h);
-      exact = λ t q fo fs a h. answered request r Done outcome e g t q a h;
+      exact = λ t q fo fs a h. answered law request r Done outcome e f.gives t q a h;
     }
 
-said : (request : Option Request) (r : Reading) (out say : Change) (stop outcome : Outcome) → IsStop stop → Gives request r stop
-    → Unchanged out → outcome ≡ stop → Gained say (say_line stop) → CutLine request r say → Promise request r out say outcome
-said request r out say stop outcome s g u e gained line =
+said : AreRead → (request : Option Request) (r : Reading) (out say : Change) (back : List View) (stop outcome : Outcome) (wording : Wording)
+    → Halts request r stop wording → Unchanged out → back ≡ [] → outcome ≡ stop → Gained say (say_line wording stop) → CutLine request r say
+    → Promise request r out say back outcome
+said law request r out say back stop outcome wording s u none e gained line =
     let P : Outcome → Type 0 = λ o. Gives request r o in
-    let Q : Outcome → Type 0 = λ o. Gained say (say_line o) in
+    let Q : Outcome → Type 0 = λ o. Said request r say o in
     record {
-      order = inr (subst P (sym e) g);
-      write_fault = λ w. absurd (stop_not_fault stop s (sym e ∙ w));
-      stopped = λ n w. (u, subst Q (sym e) gained);
-      done = λ d. absurd (stop_not_done stop s (sym e ∙ d));
-      partial = λ w. absurd (stop_not_fault stop s (sym e ∙ w));
-      table = λ w a b. absurd (stop_not_fault stop s (sym e ∙ w));
+      order = inr (subst P (sym e) s.gives);
+      write_fault = λ w. absurd (stop_not_fault stop s.stops (sym e ∙ w));
+      stopped = λ n w. (u, subst Q (sym e) (record { wording = wording; named = s.named; gained = gained }));
+      done = λ d. absurd (stop_not_done stop s.stops (sym e ∙ d));
+      none_back = λ n. none;
+      partial = λ w. absurd (stop_not_fault stop s.stops (sym e ∙ w));
+      table = λ w a b. absurd (stop_not_fault stop s.stops (sym e ∙ w));
       out_rises = λ h. absurd (no_rise out u h);
       say_rises = λ h. inr line;
-      exact = λ t q fo fs a h. answered request r stop outcome e g t q a h;
+      exact = λ t q fo fs a h. answered law request r stop outcome e s.gives t q a h;
     }
 
-unsaid : (request : Option Request) (r : Reading) (out say : Change) (outcome : Outcome)
-    → Unchanged out → outcome ≡ WriteFault → Failed say → CutLine request r say → Promise request r out say outcome
-unsaid request r out say outcome u e f line = record {
+unsaid : (request : Option Request) (r : Reading) (out say : Change) (back : List View) (outcome : Outcome)
+    → Unchanged out → back ≡ [] → outcome ≡ WriteFault → Failed say → CutLine request r say → Promise request r out say back outcome
+unsaid request r out say back outcome u none e f line = record {
   order = inl e;
   write_fault = λ w. inr f;
   stopped = λ n w. absurd (w e);
   done = λ d. absurd (cc);
+  none_back = λ n. none;
   partial = λ w. inl u;
   table = λ w a b. record {
     out_still = λ h. u;
@@ -107,90 +119,93 @@ unsaid request r out say outcome u e f line = record {
   exact = λ t q fo fs a h. absurd (fs f);
 }
 
-cut_short : (request : Option Request) (r : Reading) (out say : Change) (outcome : Outcome) (text : List ℕ) → Gives request r Done
-    → Prints request r text → Failed out → GainedFront out text → outcome ≡ WriteFault
-    → ((Failed say → ⊥) → Gained say (say_line WriteFault)) → GainedFront say (say_line WriteFault)
-    → Promise request r out say outcome
-cut_short request r out say outcome text g p f gained e whole front = record {
+cut_short : (request : Option Request) (r : Reading) (out say : Change) (back : List View) (outcome : Outcome) (text : List ℕ) (kept : List View)
+    → Finishes request r text kept → Failed out → GainedFront out text → back ≡ [] → outcome ≡ WriteFault
+    → ((Failed say → ⊥) → Gained say (say_line (by_line []) WriteFault)) → GainedFront say (say_line (by_line []) WriteFault)
+    → Promise request r out say back outcome
+cut_short request r out say back outcome text kept g f gained none e whole front = record {
   order = inl e;
   write_fault = λ w. inl f;
   stopped = λ n w. absurd (w e);
   done = λ d. absurd (cc);
-  partial = λ w. inr (record { text = text; prints = p; gained = gained });
+  none_back = λ n. none;
+  partial = λ w. inr (record { text = text; prints = g.prints; gained = gained });
   table = λ w a b. record {
     out_still = λ h. absurd (h f);
     say_still = λ h. (f, whole h);
     both = λ h k. front;
     say_alone = λ h k. absurd (h f);
   };
-  out_rises = λ h. g;
+  out_rises = λ h. g.gives;
   say_rises = λ h. inl f;
   exact = λ t q fo fs a h. absurd (fo f);
 }
 
-pub promised : (request : Option Request) (r : Reading) (out say : Change) (outcome : Outcome)
-    → Ends request r out say outcome → Promise request r out say outcome
-promised request r out say outcome (Finished text e g p gained u) = finished request r out say outcome text e g p gained u
-promised request r out say outcome (Stopped stop s g u (Spoken e gained)) =
-    said request r out say stop outcome s g u e gained (spoke_line request r say stop outcome s g (Spoken e gained))
-promised request r out say outcome (Stopped stop s g u (Broken e f gained)) =
-    unsaid request r out say outcome u e f (spoke_line request r say stop outcome s g (Broken e f gained))
-promised request r out say outcome (Cut text g p f gained (Spoken e line)) =
-    cut_short request r out say outcome text g p f gained e (λ h. line) (front_whole say.old say.new (say_line WriteFault) line)
-promised request r out say outcome (Cut text g p f gained (Broken e k line)) =
-    cut_short request r out say outcome text g p f gained e (λ h. absurd (h k)) line
+pub promised : AreRead → (request : Option Request) (r : Reading) (out say : Change) (back : List View) (outcome : Outcome)
+    → Ends request r out say back outcome → Promise request r out say back outcome
+promised law request r out say back outcome (Finished text e f gained u) = finished law request r out say back outcome text e f gained u
+promised law request r out say back outcome (Stopped stop wording s u none (Spoken e gained)) =
+    said law request r out say back stop outcome wording s u none e gained (spoke_line request r say stop outcome wording s (Spoken e gained))
+promised law request r out say back outcome (Stopped stop wording s u none (Broken e f gained)) =
+    unsaid request r out say back outcome u none e f (spoke_line request r say stop outcome wording s (Broken e f gained))
+promised law request r out say back outcome (Cut text kept g f gained none (Spoken e line)) =
+    cut_short request r out say back outcome text kept g f gained none e (λ h. line) (front_whole say.old say.new (say_line (by_line []) WriteFault) line)
+promised law request r out say back outcome (Cut text kept g f gained none (Broken e k line)) =
+    cut_short request r out say back outcome text kept g f gained none e (λ h. absurd (h k)) line
 
 -- the same, where the words were read as this request
-pub ended_usage : (request : Option Request) (r : Reading) (out say : Change) (outcome : Outcome) → None ≡ request
-    → Unchanged out → Spoke Usage say outcome → Promise request r out say outcome
-ended_usage request r out say outcome e u s =
-    let P : Option Request → Type 0 = λ q. Promise q r out say outcome in
-    subst P e (promised None r out say outcome (Stopped Usage tt (inr refl) u s))
+pub ended_usage : AreRead → (request : Option Request) (r : Reading) (out say : Change) (back : List View) (outcome : Outcome) → None ≡ request
+    → Unchanged out → back ≡ [] → Spoke Usage (by_line []) say outcome → Promise request r out say back outcome
+ended_usage law request r out say back outcome e u none s =
+    let P : Option Request → Type 0 = λ q. Promise q r out say back outcome in
+    let halts : Halts None r Usage (by_line []) = record { stops = tt; gives = inr refl; named = tt } in
+    subst P e (promised law None r out say back outcome (Stopped Usage (by_line []) halts u none s))
 
-pub ended_stop : (request : Option Request) (t : Request) (r : Reading) (out say : Change) (stop outcome : Outcome) → Some t ≡ request
-    → IsStop stop × Gives (Some t) r stop → Unchanged out → Spoke stop say outcome → Promise request r out say outcome
-ended_stop request t r out say stop outcome e (i, g) u s =
-    let P : Option Request → Type 0 = λ q. Promise q r out say outcome in
-    subst P e (promised (Some t) r out say outcome (Stopped stop i g u s))
+pub ended_stop : AreRead → (request : Option Request) (t : Request) (r : Reading) (out say : Change) (back : List View) (stop outcome : Outcome)
+    (wording : Wording) → Some t ≡ request → Halts (Some t) r stop wording → Unchanged out → back ≡ [] → Spoke stop wording say outcome
+    → Promise request r out say back outcome
+ended_stop law request t r out say back stop outcome wording e h u none s =
+    let P : Option Request → Type 0 = λ q. Promise q r out say back outcome in
+    subst P e (promised law (Some t) r out say back outcome (Stopped stop wording h u none s))
 
-pub ended_done : (request : Option Request) (t : Request) (r : Reading) (out say : Change) (text : List ℕ) → Some t ≡ request
-    → Gives (Some t) r Done × Prints (Some t) r text → Gained out text → Unchanged say → Promise request r out say Done
-ended_done request t r out say text e (g, p) gained u =
-    let P : Option Request → Type 0 = λ q. Promise q r out say Done in
-    subst P e (promised (Some t) r out say Done (Finished text refl g p gained u))
+pub ended_done : AreRead → (request : Option Request) (t : Request) (r : Reading) (out say : Change) (back : List View) (text : List ℕ) → Some t ≡ request
+    → Finishes (Some t) r text back → Gained out text → Unchanged say → Promise request r out say back Done
+ended_done law request t r out say back text e f gained u =
+    let P : Option Request → Type 0 = λ q. Promise q r out say back Done in
+    subst P e (promised law (Some t) r out say back Done (Finished text refl f gained u))
 
-pub ended_cut : (request : Option Request) (t : Request) (r : Reading) (out say : Change) (text : List ℕ) (outcome : Outcome) → Some t ≡ request
-    → Gives (Some t) r Done × Prints (Some t) r text → Failed out → GainedFront out text → Spoke WriteFault say outcome
-    → Promise request r out say outcome
-ended_cut request t r out say text outcome e (g, p) f gained s =
-    let P : Option Request → Type 0 = λ q. Promise q r out say outcome in
-    subst P e (promised (Some t) r out say outcome (Cut text g p f gained s))
+pub ended_cut : AreRead → (request : Option Request) (t : Request) (r : Reading) (out say : Change) (back kept : List View) (text : List ℕ) (outcome : Outcome)
+    → Some t ≡ request → Finishes (Some t) r text kept → Failed out → GainedFront out text → back ≡ [] → Spoke WriteFault (by_line []) say outcome
+    → Promise request r out say back outcome
+ended_cut law request t r out say back kept text outcome e g f gained none s =
+    let P : Option Request → Type 0 = λ q. Promise q r out say back outcome in
+    subst P e (promised law (Some t) r out say back outcome (Cut text kept g f gained none s))
 
 -- a file that is admitted and read is done, or finds no memory
-pub complete : (request : Option Request) (r : Reading) (out say : Change) (outcome : Outcome) → Promise request r out say outcome
+pub complete : (request : Option Request) (r : Reading) (out say : Change) (back : List View) (outcome : Outcome) → Promise request r out say back outcome
     → Admits request r → Quiet r (files_of request) → (Failed out → ⊥) → (Failed say → ⊥) → (outcome ≡ NoMemory) ⊎ (outcome ≡ Done)
-complete request r out say outcome p a q fo fs = p.exact (admits_told request r a) q fo fs Done (admits_gives request r a)
+complete request r out say back outcome p a q fo fs = p.exact (admits_told request r a) q fo fs Done (admits_gives request r a)
 
 -- a call that did not fail gave an outcome of its form
-gave : (r : Reading) (file content before : List ℕ) (out say : Change) (outcome : Outcome)
-    → Faultless r file content before out say outcome → Gives (Some (CompileWide file)) r outcome
-gave r file content before out say outcome f = elim f.promise.order [
+gave : (basis : Basis) (r : Reading) (file content before : List ℕ) (out say : Change) (back : List View) (outcome : Outcome)
+    → Faultless basis r file content before out say back outcome → Gives (Some (Compile basis file)) r outcome
+gave basis r file content before out say back outcome f = elim f.promise.order [
   | inl w ↦ elim (f.promise.write_fault w) [ inl o ↦ absurd (f.written o) | inr s ↦ absurd (f.said s) ]
   | inr g ↦ g
 ]
 
-unbroken : (r : Reading) (file content before : List ℕ) (out say : Change) (outcome : Outcome)
-    → Faultless r file content before out say outcome → outcome ≢ WriteFault
-unbroken r file content before out say outcome f w =
+unbroken : (basis : Basis) (r : Reading) (file content before : List ℕ) (out say : Change) (back : List View) (outcome : Outcome)
+    → Faultless basis r file content before out say back outcome → outcome ≢ WriteFault
+unbroken basis r file content before out say back outcome f w =
     elim (f.promise.write_fault w) [ inl o ↦ f.written o | inr s ↦ f.said s ]
 
-appended : (r : Reading) (file content before : List ℕ) (out say : Change) (outcome : Outcome)
-    → Faultless r file content before out say outcome → outcome ≡ Done → Appended content before out
-appended r file content before out say outcome f d =
+appended : (basis : Basis) (r : Reading) (file content before : List ℕ) (out say : Change) (back : List View) (outcome : Outcome)
+    → Faultless basis r file content before out say back outcome → outcome ≡ Done → Appended basis content before out
+appended basis r file content before out say back outcome f d =
     let p = (f.promise.done d).0 in
     let q = p.prints in
     let P : List ℕ → Type 0 = λ b. IsAdmittedText b q.command.names q.command.procs in
-    let same : q.held.bytes ≡ content = loaded_whole r file q.held.bytes q.held.loaded q.held.admitted.source.read.few content f.content_told in
+    let same : q.held.bytes ≡ content = loaded_whole MAX_FILE_BYTES r file q.held.bytes q.held.loaded q.held.admitted.source.read.few content f.content_told in
     record {
       text = p.text;
       compiled = record {
@@ -202,28 +217,28 @@ appended r file content before out say outcome f d =
       gained = p.gained before f.out_told;
     }
 
-done_admitted : (r : Reading) (file content before : List ℕ) (out say : Change) (outcome : Outcome)
-    → Faultless r file content before out say outcome → outcome ≡ Done → IsSuited Compiles content
-done_admitted r file content before out say outcome f d =
-    let P : Outcome → Type 0 = λ o. Gives (Some (CompileWide file)) r o in
-    let Q : List ℕ → Type 0 = IsSuited Compiles in
-    let g = subst P d (gave r file content before out say outcome f) in
-    let a = gives_admitted (Some (CompileWide file)) r g ((content, f.content_told), tt) in
+done_admitted : (basis : Basis) (r : Reading) (file content before : List ℕ) (out say : Change) (back : List View) (outcome : Outcome)
+    → Faultless basis r file content before out say back outcome → outcome ≡ Done → IsSuited (Compiles basis) content
+done_admitted basis r file content before out say back outcome f d =
+    let P : Outcome → Type 0 = λ o. Gives (Some (Compile basis file)) r o in
+    let Q : List ℕ → Type 0 = IsSuited (Compiles basis) in
+    let g = subst P d (gave basis r file content before out say back outcome f) in
+    let a = gives_admitted (Some (Compile basis file)) r g ((content, f.content_told), tt) in
     subst Q (some_same a.content content (r.content file) a.told f.content_told) a.suited
 
-admitted_done : (r : Reading) (file content before : List ℕ) (out say : Change) (outcome : Outcome)
-    → Faultless r file content before out say outcome → IsSuited Compiles content → outcome ≡ Done
-admitted_done r file content before out say outcome f a =
-    let fits : CompileAdmits r file = record { content = content; told = f.content_told; suited = a } in
-    elim (complete (Some (CompileWide file)) r out say outcome f.promise fits (f.read, tt) f.written f.said) [
+admitted_done : (basis : Basis) (r : Reading) (file content before : List ℕ) (out say : Change) (back : List View) (outcome : Outcome)
+    → Faultless basis r file content before out say back outcome → IsSuited (Compiles basis) content → outcome ≡ Done
+admitted_done basis r file content before out say back outcome f a =
+    let fits : CompileAdmits basis r file = record { content = content; told = f.content_told; suited = a } in
+    elim (complete (Some (Compile basis file)) r out say back outcome f.promise fits (f.read, tt) f.written f.said) [
       | inl m ↦ absurd (f.memory m)
       | inr d ↦ d
     ]
 
-pub headline : (r : Reading) (file content before : List ℕ) (out say : Change) (outcome : Outcome)
-    → Faultless r file content before out say outcome → Headline content before out outcome
-headline r file content before out say outcome f = record {
-  exactly = (done_admitted r file content before out say outcome f, admitted_done r file content before out say outcome f);
-  done = appended r file content before out say outcome f;
-  stopped = λ n. (f.promise.stopped n (unbroken r file content before out say outcome f)).0.0 ∙ f.out_told;
+pub headline : (basis : Basis) (r : Reading) (file content before : List ℕ) (out say : Change) (back : List View) (outcome : Outcome)
+    → Faultless basis r file content before out say back outcome → Headline basis content before out outcome
+headline basis r file content before out say back outcome f = record {
+  exactly = (done_admitted basis r file content before out say back outcome f, admitted_done basis r file content before out say back outcome f);
+  done = appended basis r file content before out say back outcome f;
+  stopped = λ n. (f.promise.stopped n (unbroken basis r file content before out say back outcome f)).0.0 ∙ f.out_told;
 }

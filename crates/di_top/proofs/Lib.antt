@@ -1,7 +1,13 @@
 pub mod Compiling
+pub mod DriveAnswers
+pub mod Drives
 pub mod Endings
 pub mod FormAnswers
+pub mod FourWords
 pub mod ListAnswers
+pub mod Keeping
 pub mod Loads
+pub mod Replays
+pub mod RunAnswers
 pub mod Sourcing
 pub mod Stops

@@ -84,7 +84,7 @@ lists_admits : (r : Reading) (file bytes : List ℕ) (names : List (List ℕ)) (
     → IsList bytes names dirs traces → (all : List ℕ) → r.content file ≡ Some all → RulesAdmits r file
 lists_admits r file bytes names dirs traces l list all told =
     let P : List ℕ → Type 0 = λ b. IsList b names dirs traces in
-    record { content = all; told = told; names = names; dirs = dirs; traces = traces; list = subst P (loaded_whole r file bytes l list.few all told) list }
+    record { content = all; told = told; names = names; dirs = dirs; traces = traces; list = subst P (loaded_whole MAX_FILE_BYTES r file bytes l list.few all told) list }
 
 pub rules_only : (r : Reading) (file : List ℕ) → RulesGives r file Done → (all : List ℕ) → r.content file ≡ Some all → RulesAdmits r file
 rules_only r file (Unloaded rose e) all told = absurd (cc)
@@ -112,20 +112,20 @@ rules_answer r file told quiet a b (Unloaded rose e) h = absurd (quiet rose)
 rules_answer r file told quiet a b (Stopped bytes l s) (Unloaded rose e) = absurd (quiet rose)
 rules_answer r file told quiet a b (Stopped bytes l s) (Stopped others m t) =
     let P : List ℕ → Type 0 = λ x. ListStops x a in
-    one_stop others a b (subst P (one_load r file bytes others told l m) s) t
+    one_stop others a b (subst P (one_load command_cap r file bytes others told l m) s) t
 rules_answer r file told quiet a b (Stopped bytes l s) (Judged names dirs traces h e) =
     let P : List ℕ → Type 0 = λ x. ListStops x a in
-    absurd (not_stopped h.bytes names dirs traces a h.list (subst P (one_load r file bytes h.bytes told l h.loaded) s))
+    absurd (not_stopped h.bytes names dirs traces a h.list (subst P (one_load command_cap r file bytes h.bytes told l h.loaded) s))
 rules_answer r file told quiet a b (Judged names dirs traces h e) (Unloaded rose f) = absurd (quiet rose)
 rules_answer r file told quiet a b (Judged names dirs traces h e) (Stopped others m t) =
     let P : List ℕ → Type 0 = λ x. ListStops x b in
-    absurd (not_stopped h.bytes names dirs traces b h.list (subst P (one_load r file others h.bytes told m h.loaded) t))
+    absurd (not_stopped h.bytes names dirs traces b h.list (subst P (one_load command_cap r file others h.bytes told m h.loaded) t))
 rules_answer r file told quiet a b (Judged names dirs traces h e) (Judged others dirz tracez k f) = e ∙ sym f
 
 -- ---- what is admitted is done
 pub admits_lists : (r : Reading) (file : List ℕ) (a : RulesAdmits r file) → FileLists r file a.names a.dirs a.traces
 admits_lists r file a = record {
   bytes = a.content;
-  loaded = whole_loaded r file a.content a.told a.list.few;
+  loaded = whole_loaded MAX_FILE_BYTES r file a.content a.told a.list.few;
   list = a.list;
 }

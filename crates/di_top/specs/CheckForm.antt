@@ -1,4 +1,5 @@
--- The form `check F`: it is done for each admitted command, and prints how many processes, symbols and places it has.
+-- The form `check F`: it is done for each admitted command, and prints how many processes, symbols and places it has. The
+-- forms of `count` answer and admit the same.
 use Rattle.std.specs.Prelude.{◌≡◌, ℕ, List, ◌++◌, length, codes, ⊤}
 use Rattle.cmd_tree.specs.declared.tree.Proc.{Proc}
 use Rattle.cmd_tree.specs.Limits.{places_of_all}

@@ -6,9 +6,13 @@ pub mod Plans
 pub mod CommandFiles
 pub mod CompileForm
 pub mod CheckForm
+pub mod CountForm
 pub mod RulesForm
+pub mod RunForm
+pub mod DriveForm
 pub mod Outcomes
 pub mod Promised
 pub mod Ends
 pub mod Headline
 pub mod Sources
+pub mod Mirror

@@ -4,12 +4,18 @@
 mod check_form;
 mod command;
 mod compile_form;
+mod count_form;
+mod drive_form;
+mod keep;
 mod laws;
 mod load;
+mod names;
 mod outcome;
 mod plan;
 mod rules_form;
+mod run_form;
 mod say;
+mod texts;
 mod top;
 mod words;
 

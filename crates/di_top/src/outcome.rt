@@ -1,9 +1,15 @@
 ghost use Rattle.std.specs.Prelude.{◌≡◌};
 ghost use Rattle.di_top.specs.Say.{status_of};
+ghost use Rattle.di_top.specs.Plans.{names_in};
 
+use crate::names::names_of;
 use cmd_expand::ExpandRefusal;
 use cmd_text::Refusal;
+use cmd_tree::Name;
 use di_grammar::Broken;
+use net_core::Net;
+use net_text::NetRefusal;
+use replay::{Answer, ScheduleRefusal};
 use std::alloc::AllocError;
 use trace_laws::TraceRefusal;
 
@@ -24,6 +30,10 @@ pub enum Outcome {
     NoMemory,
     /// The limit of this number is passed. `value` is what was found.
     Limit { limit: u8, value: u64 },
+    /// The event in this line of the schedule has a hazard, or the one that was drawn in this step of a drive.
+    Hazard { line: u32, what: Answer },
+    /// The event in this line of the schedule may not happen.
+    NotRun { line: u32, what: Answer },
 }
 
 /// Why an input is refused.
@@ -39,6 +49,19 @@ pub enum Why {
     Grammar(Broken),
     /// The file is no list of traces.
     Traces(TraceRefusal),
+    /// The file is no netlist.
+    Net(NetRefusal),
+    /// The file is no schedule.
+    Schedule(ScheduleRefusal),
+}
+
+/// What the number of an event counts.
+#[derive(Debug, Clone, Copy, PartialEq, Eq)]
+pub enum Numbered {
+    /// The lines of a schedule, from 1 on.
+    Lines,
+    /// The steps of a drive, from 1 on.
+    Steps,
 }
 
 impl Outcome {
@@ -54,6 +77,8 @@ impl Outcome {
             Outcome::WriteFault => 4,
             Outcome::NoMemory => 5,
             Outcome::Limit { .. } => 6,
+            Outcome::Hazard { .. } => 7,
+            Outcome::NotRun { .. } => 8,
         }
     }
 }
@@ -119,5 +144,81 @@ impl From<TraceRefusal> for Outcome {
             TraceRefusal::NoMemory => Outcome::NoMemory,
             _ => Outcome::Refused(Why::Traces(refusal)),
         }
+    }
+}
+
+impl From<NetRefusal> for Outcome {
+    ghost use Rattle.std.specs.Prelude.{◌≡◌};
+    ghost use Rattle.di_top.specs.RunForm.{told_of_net};
+
+    ghost from_gives = { λ refusal outcome. outcome ≡ told_of_net refusal };
+
+    fn from(refusal: NetRefusal) -> Outcome {
+        match refusal {
+            NetRefusal::NoMemory => Outcome::NoMemory,
+            _ => Outcome::Refused(Why::Net(refusal)),
+        }
+    }
+}
+
+impl From<ScheduleRefusal> for Outcome {
+    ghost use Rattle.std.specs.Prelude.{◌≡◌};
+    ghost use Rattle.di_top.specs.RunForm.{told_of_schedule};
+
+    ghost from_gives = { λ refusal outcome. outcome ≡ told_of_schedule refusal };
+
+    fn from(refusal: ScheduleRefusal) -> Outcome {
+        match refusal {
+            ScheduleRefusal::NoMemory => Outcome::NoMemory,
+            _ => Outcome::Refused(Why::Schedule(refusal)),
+        }
+    }
+}
+
+/// What ends a call before it writes. The outcome of an event is said by what its number counts, and by the names of the
+/// network that was read by then.
+#[derive(Drop)]
+pub struct Stop {
+    pub outcome: Outcome,
+    pub numbered: Numbered,
+    pub net: Option<Net>,
+}
+
+impl Stop {
+    /// The names with which the outcome is said.
+    pub fn names(&self) -> &[Name]
+        ensures { result.now ≡ names_in self.now.net }
+    {
+        match &self.net {
+            None => &[],
+            Some(net) => names_of(net),
+        }
+    }
+}
+
+impl From<Outcome> for Stop {
+    ghost use Rattle.std.specs.Prelude.{◌≡◌, None};
+    ghost use Rattle.di_top.specs.declared.outcome.Numbered.{Numbered};
+
+    ghost from_gives = { λ outcome stop. stop ≡ record { outcome = outcome; numbered = Numbered.Lines; net = None } };
+
+    fn from(outcome: Outcome) -> Stop {
+        Stop {
+            outcome,
+            numbered: Numbered::Lines,
+            net: None,
+        }
+    }
+}
+
+impl From<AllocError> for Stop {
+    ghost use Rattle.std.specs.Prelude.{◌≡◌, None};
+    ghost use Rattle.di_top.specs.declared.outcome.Numbered.{Numbered};
+    ghost use Rattle.di_top.specs.declared.outcome.Outcome.TheVariants.{NoMemory};
+
+    ghost from_gives = { λ _ stop. stop ≡ record { outcome = NoMemory; numbered = Numbered.Lines; net = None } };
+
+    fn from(_error: AllocError) -> Stop {
+        Stop::from(Outcome::NoMemory)
     }
 }

@@ -1,7 +1,7 @@
 //! The form `rules F`.
 #![tactic(auto, using(di_io::proofs::Prints::printing))]
 
-ghost use Rattle.std.specs.Prelude.{◌≡◌, ◌≤◌, ◌⊎◌, ℕ, List, [], slice_index_or, flat_map, IfOk, IfErr, OnOk, OnErr, Some};
+ghost use Rattle.std.specs.Prelude.{◌≡◌, ◌≤◌, ◌⊎◌, ℕ, List, flat_map, IfOk, IfErr, OnOk, OnErr, Some};
 ghost use Rattle.di_io.specs.Faults.{Rose};
 ghost use Rattle.di_io.specs.Written.{Gains, GainsFront};
 ghost use Rattle.di_io.specs.Printing.{prints};
@@ -12,6 +12,7 @@ ghost use Rattle.di_top.specs.Outcomes.{Gives, Prints};
 ghost use Rattle.di_top.specs.Plans.{text_of, IsStop};
 
 use crate::load::load_file;
+use crate::names::name_bytes;
 use crate::outcome::Outcome;
 use crate::plan::Plan;
 use cmd_text::NameTable;
@@ -114,14 +115,5 @@ fn print_symbol<S: Sink>(names: &NameTable, symbol: Sym, printer: &mut Printer<'
     ensures { printer.new ≡ prints printer.old (symbol_text names.now symbol) }
 {
     printer.print(b" ");
-    printer.print(name_bytes(names, symbol));
-}
-
-fn name_bytes(names: &NameTable, symbol: Sym) -> &[u8]
-    ensures { result.now ≡ slice_index_or names.now symbol.0 [] }
-{
-    match names.as_slice().get(symbol.0 as usize) {
-        Some(name) => name.bytes(),
-        None => &[],
-    }
+    printer.print(name_bytes(names.as_slice(), symbol));
 }

@@ -1,40 +1,54 @@
 //! The line that is said of an outcome.
 #![tactic(auto, using(di_io::proofs::Prints::printing))]
 
-ghost use Rattle.std.specs.Prelude.{◌≡◌, ◌≤◌, OnOk, OnErr};
+ghost use Rattle.std.specs.Prelude.{◌≡◌, ◌≤◌, ◌++◌, ℕ, List, codes, OnOk, OnErr};
 ghost use Rattle.di_io.specs.Faults.{Rose};
 ghost use Rattle.di_io.specs.Written.{Gains, GainsFront};
 ghost use Rattle.di_io.specs.Printing.{prints};
-ghost use Rattle.di_top.specs.Say.{say_line, why_line, text_line, expand_line, grammar_line, traces_line, limit_line, allowed};
+ghost use Rattle.di_top.specs.Say.{say_line, why_line, text_line, expand_line, grammar_line, traces_line, net_line, schedule_line, answer_line, name_at, limit_line, allowed};
+ghost use Rattle.di_top.specs.Plans.{counting};
 
-use crate::outcome::{Outcome, Why};
+use crate::names::name_bytes;
+use crate::outcome::{Numbered, Outcome, Why};
 use cmd_expand::ExpandRefusal;
 use cmd_text::Refusal;
 use cmd_tree::{
     MAX_BIG, MAX_COMPONENTS, MAX_DRIVEN_STEPS, MAX_FILE_BYTES, MAX_NETLIST_BYTES,
-    MAX_OPEN_BRACKETS, MAX_PLACES, MAX_PROCESSES, MAX_SYMBOLS,
+    MAX_OPEN_BRACKETS, MAX_PLACES, MAX_PROCESSES, MAX_SYMBOLS, Name, Sym,
 };
 use di_grammar::Broken;
 use di_io::{Printer, PutFault, Sink};
+use net_text::NetRefusal;
+use replay::{Answer, ScheduleRefusal};
 use text_lines::{print_numbered, print_worded};
 use trace_laws::TraceRefusal;
 
-/// Puts the line of an outcome; `Done` has none. After an error a front of it was put.
+/// Puts the line of an outcome, by what its number counts and with these names of symbols; `Done` has none. After an error a front of it was put.
 #[tactic(auto, using(di_io::proofs::Prints::front_at), unfolding(di_io::specs::Printing::prints))]
-pub fn say_outcome<S: Sink>(outcome: Outcome, sink: &mut S) -> Result<(), PutFault>
+pub fn say_outcome<S: Sink>(
+    outcome: Outcome,
+    numbered: Numbered,
+    names: &[Name],
+    sink: &mut S,
+) -> Result<(), PutFault>
     ensures later { S.faults sink.old ≤ S.faults sink.new }
-    ensures ok { OnOk result (Gains (S.written sink.old) (S.written sink.new) (say_line outcome)) }
+    ensures ok { OnOk result (Gains (S.written sink.old) (S.written sink.new) (say_line (counting numbered names.now) outcome)) }
     ensures failed { OnErr result (Rose (S.faults sink.old) (S.faults sink.new)) }
-    ensures front { OnErr result (GainsFront (S.written sink.old) (S.written sink.new) (say_line outcome)) }
+    ensures front { OnErr result (GainsFront (S.written sink.old) (S.written sink.new) (say_line (counting numbered names.now) outcome)) }
 {
     let mut printer = Printer::new(sink);
-    print_outcome(outcome, &mut printer);
+    print_outcome(outcome, numbered, names, &mut printer);
     let (result, _sink) = printer.finish();
     result
 }
 
-fn print_outcome<S: Sink>(outcome: Outcome, printer: &mut Printer<'_, S>)
-    ensures { printer.new ≡ prints printer.old (say_line outcome) }
+fn print_outcome<S: Sink>(
+    outcome: Outcome,
+    numbered: Numbered,
+    names: &[Name],
+    printer: &mut Printer<'_, S>,
+)
+    ensures { printer.new ≡ prints printer.old (say_line (counting numbered names.now) outcome) }
 {
     match outcome {
         Outcome::Done => {}
@@ -46,7 +60,56 @@ fn print_outcome<S: Sink>(outcome: Outcome, printer: &mut Printer<'_, S>)
         Outcome::WriteFault => printer.print(b"write fault\n"),
         Outcome::NoMemory => printer.print(b"no memory\n"),
         Outcome::Limit { limit, value } => print_limit(limit, value, printer),
+        Outcome::Hazard { line, what } => {
+            printer.print(b"hazard ");
+            print_worded(word_of(numbered), line as u64, printer);
+            print_answer(what, names, printer);
+        }
+        Outcome::NotRun { line, what } => {
+            printer.print(b"no run ");
+            print_worded(word_of(numbered), line as u64, printer);
+            print_answer(what, names, printer);
+        }
     }
+}
+
+/// The word for what the number of an event counts.
+fn word_of(numbered: Numbered) -> &'static [u8]
+    ensures { (names : List (List ℕ)) → result.now ≡ (counting numbered names).counts }
+{
+    match numbered {
+        Numbered::Lines => b"line ",
+        Numbered::Steps => b"step ",
+    }
+}
+
+// What is printed of an event that was not applied. A port is counted from 0 in the answer, and from 1 in the line.
+fn print_answer<S: Sink>(answer: Answer, names: &[Name], printer: &mut Printer<'_, S>)
+    ensures { printer.new ≡ prints printer.old (answer_line names.now answer) }
+{
+    match answer {
+        Answer::Clash { wire } => print_numbered(b" clash wire ", wire as u64, printer),
+        Answer::Forbidden { component, port } => {
+            print_worded(b" forbidden component ", component as u64, printer);
+            print_numbered(b" port ", port as u64 + 1, printer);
+        }
+        Answer::WrongOutput { sym } => print_named(b" wrong output ", names, sym, printer),
+        Answer::CannotFire { component } => {
+            print_numbered(b" cannot fire ", component as u64, printer)
+        }
+        Answer::EmptyWire { wire } => print_numbered(b" empty wire ", wire as u64, printer),
+        Answer::NotAllowed { sym } => print_named(b" not allowed ", names, sym, printer),
+        Answer::NoSuch => printer.print(b" no such\n"),
+        Answer::Done | Answer::NoMemory => printer.print(b"\n"),
+    }
+}
+
+fn print_named<S: Sink>(words: &[u8], names: &[Name], symbol: Sym, printer: &mut Printer<'_, S>)
+    ensures { printer.new ≡ prints printer.old (words.now ++ name_at names.now symbol ++ codes "\n") }
+{
+    printer.print(words);
+    printer.print(name_bytes(names, symbol));
+    printer.print(b"\n");
 }
 
 fn print_why<S: Sink>(why: Why, printer: &mut Printer<'_, S>)
@@ -58,6 +121,8 @@ fn print_why<S: Sink>(why: Why, printer: &mut Printer<'_, S>)
         Why::NotThisForm => printer.print(b"refused form\n"),
         Why::Grammar(broken) => print_broken(broken, printer),
         Why::Traces(refusal) => print_traces(refusal, printer),
+        Why::Net(refusal) => print_net(refusal, printer),
+        Why::Schedule(refusal) => print_schedule(refusal, printer),
     }
 }
 
@@ -122,6 +187,36 @@ fn print_traces<S: Sink>(refusal: TraceRefusal, printer: &mut Printer<'_, S>)
             print_numbered(b"refused traces line ", line as u64, printer)
         }
         TraceRefusal::NoMemory => printer.print(b"no memory\n"),
+    }
+}
+
+fn print_net<S: Sink>(refusal: NetRefusal, printer: &mut Printer<'_, S>)
+    ensures { printer.new ≡ prints printer.old (net_line refusal) }
+{
+    match refusal {
+        NetRefusal::BadLine { line } => print_numbered(b"refused net line ", line as u64, printer),
+        NetRefusal::SpecRefused { rule } => {
+            print_numbered(b"refused net spec G", rule as u64, printer)
+        }
+        NetRefusal::TooManyComponents { line } => {
+            print_numbered(b"refused net components line ", line as u64, printer)
+        }
+        NetRefusal::Truncated { line } => {
+            print_numbered(b"refused net cut line ", line as u64, printer)
+        }
+        NetRefusal::OpenPort { wire } => print_numbered(b"refused net wire ", wire as u64, printer),
+        NetRefusal::NoMemory => printer.print(b"no memory\n"),
+    }
+}
+
+fn print_schedule<S: Sink>(refusal: ScheduleRefusal, printer: &mut Printer<'_, S>)
+    ensures { printer.new ≡ prints printer.old (schedule_line refusal) }
+{
+    match refusal {
+        ScheduleRefusal::BadLine { line } => {
+            print_numbered(b"refused schedule line ", line as u64, printer)
+        }
+        ScheduleRefusal::NoMemory => printer.print(b"no memory\n"),
     }
 }
 

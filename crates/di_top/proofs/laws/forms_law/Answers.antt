@@ -3,7 +3,7 @@ use Rattle.di_top.proofs.Endings.{complete}
 use Rattle.di_top.proofs.laws.forms_law.Goals as goal
 
 pub returns-clause-one_answer : goal.returns-clause-one_answer
-returns-clause-one_answer c = one_answer
+returns-clause-one_answer c = one_answer c.canonical_texts_are_read.ensures
 
 pub returns-clause-only_admitted : goal.returns-clause-only_admitted
 returns-clause-only_admitted c = gives_admitted
