@@ -1,0 +1,6 @@
+//! Laws of the number of components that stand for a DW in the basis two.
+#![tactic(auto)]
+
+mod laws;
+
+pub use laws::{columns_law, connected_law, crossings_law, parts_law, small_law};
