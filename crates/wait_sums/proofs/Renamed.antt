@@ -222,3 +222,193 @@ module _ (S : ℕ → Type 0) (F : ℕ → ℕ) (grows : (v w : ℕ) → S v →
         let y' : g' (loc p).0 ≡ F (g p.0) = ap g' all.0.2 ∙ y in
         let z' : g' (R + (loc p).1) ≡ F (g (rows + p.1)) = ap g' all.0.3 ∙ z in
         ((λ i. if nat_eq (x i) (y' i) || nat_eq (x i) (z' i) then lesser (y' i) (z' i) else x i) ∙ e, t)
+
+-- ---- a list of crossings, and the shape of the lines that it meets
+
+module _ (rows cols : ℕ) (cross : List (ℕ × ℕ)) (within : IsWithin rows cols cross) where
+  abbrev inside : AllByRecursion (λ p. (p.0 < rows) × (p.1 < cols)) cross
+  inside = inside_of rows cols cross within
+
+  abbrev row_rank : ℕ → ℕ
+  row_rank x = how_many_below x (has_row cross)
+
+  abbrev column_rank : ℕ → ℕ
+  column_rank x = how_many_below x (has_column cross)
+
+  -- the rows, and the columns, that there are
+  abbrev R : ℕ
+  R = length (part_rows rows cross)
+
+  abbrev C : ℕ
+  C = length (part_columns cols cross)
+
+  rows_are : R ≡ row_rank rows
+  rows_are = sym (counted (has_row cross) (range_with_len 0 rows))
+
+  abbrev loc : ℕ × ℕ → ℕ × ℕ
+  loc = local_crossing cross
+
+  -- a line with a crossing
+  abbrev S : ℕ → Type 0
+  S v = ((v < rows) × (has_row cross v ≡ true)) ⊎ ((rows ≤ v) × (has_column cross (v - rows) ≡ true))
+
+  abbrev F : ℕ → ℕ
+  F v = if nat_lt v rows then row_rank v else R + column_rank (v - rows)
+
+  row_name : (v : ℕ) → v < rows → F v ≡ row_rank v
+  row_name v low = cond-true (nat_lt v rows) (row_rank v) (R + column_rank (v - rows)) (lt-ltb v rows low)
+
+  column_name : (v : ℕ) → rows ≤ v → F v ≡ R + column_rank (v - rows)
+  column_name v high = cond-false (nat_lt v rows) (row_rank v) (R + column_rank (v - rows)) (le-ltb v rows high)
+
+  grows : (v w : ℕ) → S v → S w → v < w → F v < F w
+  grows v w (inl (a, s)) (inl (b, t)) less = omega (arith, row_name v a, row_name w b, rank_grows (has_row cross) v w s less)
+  grows v w (inl (a, s)) (inr (b, t)) less = omega (arith, row_name v a, column_name w b, rank_grows (has_row cross) v rows s a, rows_are)
+  grows v w (inr (a, s)) (inl (b, t)) less = absurd (omega arith)
+  grows v w (inr (a, s)) (inr (b, t)) less = omega (arith, column_name v a, column_name w b, rank_grows (has_column cross) (v - rows) (w - rows) s (omega arith))
+
+  abbrev Mine : ℕ × ℕ → Type 0
+  Mine p = (p.0 < rows) × (p.1 < cols) × (has_row cross p.0 ≡ true) × (has_column cross p.1 ≡ true)
+
+  mine : AllByRecursion Mine cross
+  mine = all_three cross inside (keys_found (λ p. p.0) cross) (keys_found (λ p. p.1) cross)
+    where
+      all_three : (xs : List (ℕ × ℕ)) → AllByRecursion (λ p. (p.0 < rows) × (p.1 < cols)) xs → AllByRecursion (λ p. has_row cross p.0 ≡ true) xs → AllByRecursion (λ p. has_column cross p.1 ≡ true) xs → AllByRecursion Mine xs
+      all_three [] a b c = tt
+      all_three (x ∷ xs) a b c = ((a.0.0, a.0.1, b.0, c.0), all_three xs a.1 b.1 c.1)
+
+  column_there : (c : ℕ) → has_column cross c ≡ true → S (rows + c)
+  column_there c h = let e : c ≡ rows + c - rows = omega arith in inr (omega arith, ap (has_column cross) (sym e) ∙ h)
+
+  followed : (p : ℕ × ℕ) → Mine p → Follows S F grows rows R loc p
+  followed p m =
+      let e : rows + p.1 - rows ≡ p.1 = omega arith in (
+        inl (m.0, m.2),
+        column_there p.1 m.3,
+        sym (row_name p.0 m.0),
+        sym (column_name (rows + p.1) (omega arith) ∙ ap (λ (k : ℕ). R + column_rank k) e),
+      )
+
+  labels : (v : ℕ) → S v → (label R (map loc cross) (F v) ≡ F (label rows cross v)) × S (label rows cross v)
+  labels = label_follows S F grows rows R loc cross (all_by Mine (Follows S F grows rows R loc) followed cross mine)
+
+  -- of a crossing, the name of its part
+  part_named : (p : ℕ × ℕ) → Mine p → (label R (map loc cross) (loc p).0 ≡ row_rank (label rows cross p.0)) × (label rows cross p.0 < rows) × (has_row cross (label rows cross p.0) ≡ true)
+  part_named p m =
+      let (e, s) = labels p.0 (inl (m.0, m.2)) in
+      let low : label rows cross p.0 < rows = omega (arith, label_low rows cross p.0, m.0) in
+      (
+        ap (label R (map loc cross)) (sym (row_name p.0 m.0)) ∙ e ∙ row_name (label rows cross p.0) low,
+        low,
+        elim s [ inl h ↦ h.1 | inr h ↦ absurd (omega (arith, h.0, low)) ],
+      )
+
+  row_eq : (x y : ℕ) → x < rows → y < rows → has_row cross x ≡ true → has_row cross y ≡ true → nat_eq (row_rank x) (row_rank y) ≡ nat_eq x y
+  row_eq x y a b s t = ap (λ (k : ℕ). nat_eq k (row_rank y)) (sym (row_name x a)) ∙ ap (λ (k : ℕ). nat_eq (F x) k) (sym (row_name y b)) ∙ eq_kept S F grows x y (inl (a, s)) (inl (b, t))
+
+  column_eq : (x y : ℕ) → has_column cross x ≡ true → has_column cross y ≡ true → nat_eq (column_rank x) (column_rank y) ≡ nat_eq x y
+  column_eq x y s t = eq_kept (λ z. has_column cross z ≡ true) column_rank (λ v w a b less. rank_grows (has_column cross) v w a less) x y s t
+
+  row_low : (x : ℕ) → has_row cross x ≡ true → x < rows
+  row_low x h = any_from (λ p. (p.0 < rows) × (p.1 < cols)) (x < rows) (λ p. nat_eq p.0 x) cross inside (λ p m e. omega (arith, m.0, eqb-true p.0 x e)) h
+
+  -- ---- some of the crossings
+
+  module _ (part : List (ℕ × ℕ)) (all : AllByRecursion Mine part) where
+    row_kept : (x : ℕ) → has_row cross x ≡ true → has_row (map loc part) (row_rank x) ≡ has_row part x
+    row_kept x h =
+        any_mapped (λ p. nat_eq p.0 (row_rank x)) loc part
+        ∙ any_same (λ p. nat_eq (row_rank p.0) (row_rank x)) (λ p. nat_eq p.0 x) part
+        (all_by Mine (λ p. nat_eq (row_rank p.0) (row_rank x) ≡ nat_eq p.0 x) (λ p m. row_eq p.0 x m.0 (row_low x h) m.2 h) part all)
+
+    column_kept : (x : ℕ) → has_column cross x ≡ true → has_column (map loc part) (column_rank x) ≡ has_column part x
+    column_kept x h =
+        any_mapped (λ p. nat_eq p.1 (column_rank x)) loc part
+        ∙ any_same (λ p. nat_eq (column_rank p.1) (column_rank x)) (λ p. nat_eq p.1 x) part
+        (all_by Mine (λ p. nat_eq (column_rank p.1) (column_rank x) ≡ nat_eq p.1 x) (λ p m. column_eq p.1 x m.3 h) part all)
+
+    row_of_all : (x : ℕ) → has_row part x ≡ true → has_row cross x ≡ true
+    row_of_all x h = any_from Mine (has_row cross x ≡ true) (λ p. nat_eq p.0 x) part all (λ p m e. ap (has_row cross) (sym (eqb-true p.0 x e)) ∙ m.2) h
+
+    column_of_all : (x : ℕ) → has_column part x ≡ true → has_column cross x ≡ true
+    column_of_all x h = any_from Mine (has_column cross x ≡ true) (λ p. nat_eq p.1 x) part all (λ p m e. ap (has_column cross) (sym (eqb-true p.1 x e)) ∙ m.3) h
+
+    rows_again : (n : ℕ) → filter (has_row (map loc part)) (range_with_len 0 (length (filter (has_row cross) (range_with_len 0 n)))) ≡ map row_rank (filter (has_row part) (range_with_len 0 n))
+    rows_again n = renumbered (has_row cross) (has_row part) (has_row (map loc part)) n row_kept (λ x low. row_of_all x)
+
+    columns_again : (n : ℕ) → filter (has_column (map loc part)) (range_with_len 0 (length (filter (has_column cross) (range_with_len 0 n)))) ≡ map column_rank (filter (has_column part) (range_with_len 0 n))
+    columns_again n = renumbered (has_column cross) (has_column part) (has_column (map loc part)) n column_kept (λ x low. column_of_all x)
+
+    as_many_rows : length (part_rows R (map loc part)) ≡ length (part_rows rows part)
+    as_many_rows = ap length (rows_again rows) ∙ length-map (part_rows rows part) row_rank
+
+    as_many_columns : length (part_columns C (map loc part)) ≡ length (part_columns cols part)
+    as_many_columns = ap length (columns_again cols) ∙ length-map (part_columns cols part) column_rank
+
+    row_again : (x : ℕ) → how_many_below (row_rank x) (has_row (map loc part)) ≡ how_many_below x (has_row part)
+    row_again x =
+        ap (λ (n : ℕ). how_many_below n (has_row (map loc part))) (counted (has_row cross) (range_with_len 0 x))
+        ∙ counted (has_row (map loc part)) (range_with_len 0 (length (filter (has_row cross) (range_with_len 0 x))))
+        ∙ ap length (rows_again x) ∙ length-map (filter (has_row part) (range_with_len 0 x)) row_rank
+        ∙ sym (counted (has_row part) (range_with_len 0 x))
+
+    column_again : (x : ℕ) → how_many_below (column_rank x) (has_column (map loc part)) ≡ how_many_below x (has_column part)
+    column_again x =
+        ap (λ (n : ℕ). how_many_below n (has_column (map loc part))) (counted (has_column cross) (range_with_len 0 x))
+        ∙ counted (has_column (map loc part)) (range_with_len 0 (length (filter (has_column cross) (range_with_len 0 x))))
+        ∙ ap length (columns_again x) ∙ length-map (filter (has_column part) (range_with_len 0 x)) column_rank
+        ∙ sym (counted (has_column part) (range_with_len 0 x))
+
+    local_again : local_part (map loc part) ≡ local_part part
+    local_again = map_twice (local_crossing (map loc part)) loc part ∙ each part
+      where
+        each : (ps : List (ℕ × ℕ)) → map (λ p. local_crossing (map loc part) (loc p)) ps ≡ map (local_crossing part) ps
+        each [] = refl
+        each (p ∷ ps) = let a = row_again p.0 in let b = column_again p.1 in let rest = each ps in λ i. (a i, b i) ∷ rest i
+
+    own_again : (inner : ℕ → ℕ → List (ℕ × ℕ) → Sort → ℕ) (t : Sort) → sum_of_part inner R C (map loc part) t ≡ sum_of_part inner rows cols part t
+    own_again inner t = λ i. part_sum inner (as_many_rows i) (as_many_columns i) (local_again i) t
+
+  -- ---- all parts
+
+  name_kept : (x : ℕ) → has_row cross x ≡ true → (p : ℕ × ℕ) → Mine p → nat_eq (label R (map loc cross) (loc p).0) (row_rank x) ≡ nat_eq (label rows cross p.0) x
+  name_kept x h p m =
+      let (e, low, has) = part_named p m in
+      ap (λ (k : ℕ). nat_eq k (row_rank x)) e ∙ row_eq (label rows cross p.0) x low (row_low x h) has h
+
+  name_row : (x : ℕ) → list_any (λ p. nat_eq (label rows cross p.0) x) cross ≡ true → has_row cross x ≡ true
+  name_row x h = any_from Mine (has_row cross x ≡ true) (λ p. nat_eq (label rows cross p.0) x) cross mine
+      (λ p m e. let (f, low, has) = part_named p m in ap (has_row cross) (sym (eqb-true (label rows cross p.0) x e)) ∙ has) h
+
+  names_again : part_names R (map loc cross) ≡ map row_rank (part_names rows cross)
+  names_again = renumbered (has_row cross) (λ i. list_any (λ p. nat_eq (label rows cross p.0) i) cross) (λ i. list_any (λ p. nat_eq (label R (map loc cross) p.0) i) (map loc cross)) rows
+      (λ x h. any_mapped (λ p. nat_eq (label R (map loc cross) p.0) (row_rank x)) loc cross
+      ∙ any_same (λ p. nat_eq (label R (map loc cross) (loc p).0) (row_rank x)) (λ p. nat_eq (label rows cross p.0) x) cross
+      (all_by Mine (λ p. nat_eq (label R (map loc cross) (loc p).0) (row_rank x) ≡ nat_eq (label rows cross p.0) x) (λ p m. name_kept x h p m) cross mine))
+      (λ x low. name_row x)
+
+  part_again : (i : ℕ) → has_row cross i ≡ true → part_at R (map loc cross) (row_rank i) ≡ map loc (part_at rows cross i)
+  part_again i h = filter_mapped (λ p. nat_eq (label R (map loc cross) p.0) (row_rank i)) (λ p. nat_eq (label rows cross p.0) i) loc cross
+      (all_by Mine (λ p. nat_eq (label R (map loc cross) (loc p).0) (row_rank i) ≡ nat_eq (label rows cross p.0) i) (name_kept i h) cross mine)
+
+  mine_of : (i : ℕ) → AllByRecursion Mine (part_at rows cross i)
+  mine_of i = all_by (λ p. (nat_eq (label rows cross p.0) i ≡ true) × Mine p) Mine (λ p m. m.1) (part_at rows cross i) (all_kept Mine (λ p. nat_eq (label rows cross p.0) i) cross mine)
+
+  pub crossings_count : (t : Sort) → wait_sum rows cols cross t ≡ own_sum rows cols cross t
+  crossings_count t =
+      by_parts rows cols cross t
+      ∙ sym (by_parts R C (map loc cross) t
+      ∙ ap (sum_over (λ i. sum_of_part wait_sum R C (part_at R (map loc cross) i) t)) names_again
+      ∙ sum_mapped (λ i. sum_of_part wait_sum R C (part_at R (map loc cross) i) t) row_rank (part_names rows cross)
+      ∙ sum_all (λ i. sum_of_part wait_sum R C (part_at R (map loc cross) (row_rank i)) t) (λ i. sum_of_part wait_sum rows cols (part_at rows cross i) t) (part_names rows cross) each)
+    where
+      trivial : (xs : List ℕ) → AllByRecursion (λ (x : ℕ). Unit {0}) xs
+      trivial [] = tt
+      trivial (x ∷ xs) = (tt, trivial xs)
+
+      each : AllByRecursion (λ i. sum_of_part wait_sum R C (part_at R (map loc cross) (row_rank i)) t ≡ sum_of_part wait_sum rows cols (part_at rows cross i) t) (part_names rows cross)
+      each = all_by (λ i. (list_any (λ p. nat_eq (label rows cross p.0) i) cross ≡ true) × Unit {0})
+          (λ i. sum_of_part wait_sum R C (part_at R (map loc cross) (row_rank i)) t ≡ sum_of_part wait_sum rows cols (part_at rows cross i) t)
+          (λ i h. ap (λ ps. sum_of_part wait_sum R C ps t) (part_again i (name_row i h.0)) ∙ own_again (part_at rows cross i) (mine_of i) wait_sum t)
+          (part_names rows cross)
+          (all_kept (λ (x : ℕ). Unit {0}) (λ i. list_any (λ p. nat_eq (label rows cross p.0) i) cross) (range_with_len 0 rows) (trivial (range_with_len 0 rows)))

@@ -1,0 +1,3 @@
+pub mod WaitLayers
+pub mod Renamed
+pub mod ConnectedParts
