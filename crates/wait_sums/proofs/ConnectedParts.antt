@@ -13,7 +13,7 @@ use Rattle.shape_parts.proofs.Labelled.{labels_agree, label_low}
 use Rattle.shape_parts.proofs.Links.{merged_in, merged_out}
 use Rattle.wait_sums.specs.WaitSums.{IsWithin, IsConnected, own_sum, part_alone}
 use Rattle.wait_sums.proofs.WaitLayers.{by_parts, range_long}
-use Rattle.wait_sums.proofs.Renamed.{all_by, all_kept, any_from, any_same, counted, crossings_count, inside_of, keys_found, rank_next, sum_all}
+use Rattle.wait_sums.proofs.Renamed.{all_by, all_kept, any_from, any_same, bit, counted, crossings_count, inside_of, keys_found, rank_next, sum_all}
 
 all_from : {A : Type 0} (P : A → Type 0) (d : A) (xs : List A) → ((n : ℕ) → n < length xs → P (get_or xs n d)) → AllByRecursion P xs
 all_from P d [] h = tt
@@ -29,29 +29,17 @@ all_agree rows cross = all_from (Agree rows (label rows cross)) (0, 0) cross (la
 -- the labels are equal only where all that agrees at each crossing is equal
 finest : (rows : ℕ) (cross : List (ℕ × ℕ)) (f : ℕ → ℕ) → AllByRecursion (Agree rows f) cross → (v w : ℕ) → label rows cross v ≡ label rows cross w → f v ≡ f w
 finest rows [] f all v w e = ap f e
-finest rows (p ∷ ps) f all v w e = at (into v) (into w)
+finest rows (p ∷ ps) f all v w e = at (finest rows ps f all.1) (into v) (into w)
   where
-    g : ℕ → ℕ
-    g = label rows ps
-
-    a : ℕ
-    a = p.0
-
-    b : ℕ
-    b = rows + p.1
-
-    rest : (x y : ℕ) → label rows ps x ≡ label rows ps y → f x ≡ f y
-    rest = finest rows ps f all.1
-
     into : (x : ℕ) → ((label rows ps x ≡ label rows ps p.0) ⊎ (label rows ps x ≡ label rows ps (rows + p.1))) ⊎ ((label rows ps x ≢ label rows ps p.0) × (label rows ps x ≢ label rows ps (rows + p.1)))
     into x = elim (cases_eq (label rows ps x) (label rows ps p.0)) [
       | inl h ↦ inl (inl h)
       | inr d ↦ elim (cases_eq (label rows ps x) (label rows ps (rows + p.1))) [ inl h ↦ inl (inr h) | inr k ↦ inr (d, k) ]
     ]
 
-    same : (x : ℕ) → (label rows ps x ≡ label rows ps p.0) ⊎ (label rows ps x ≡ label rows ps (rows + p.1)) → f x ≡ f p.0
-    same x (inl h) = rest x p.0 h
-    same x (inr h) = rest x (rows + p.1) h ∙ sym all.0
+    same : ((x y : ℕ) → label rows ps x ≡ label rows ps y → f x ≡ f y) → (x : ℕ) → (label rows ps x ≡ label rows ps p.0) ⊎ (label rows ps x ≡ label rows ps (rows + p.1)) → f x ≡ f p.0
+    same rest x (inl h) = rest x p.0 h
+    same rest x (inr h) = rest x (rows + p.1) h ∙ sym all.0
 
     least : (y z : ℕ) → (lesser y z ≡ y) ⊎ (lesser y z ≡ z)
     least y z = by (nat_lt z y)
@@ -67,12 +55,12 @@ finest rows (p ∷ ps) f all v w e = at (into v) (into w)
         let z : lesser (label rows ps p.0) (label rows ps (rows + p.1)) ≡ label rows ps y = sym (merged_in (label rows ps) p.0 (rows + p.1) x h) ∙ q ∙ merged_out (label rows ps) p.0 (rows + p.1) y k.0 k.1 in
         elim (least (label rows ps p.0) (label rows ps (rows + p.1))) [ inl c ↦ k.0 (sym z ∙ c) | inr c ↦ k.1 (sym z ∙ c) ]
 
-    at : ((label rows ps v ≡ label rows ps p.0) ⊎ (label rows ps v ≡ label rows ps (rows + p.1))) ⊎ ((label rows ps v ≢ label rows ps p.0) × (label rows ps v ≢ label rows ps (rows + p.1)))
+    at : ((x y : ℕ) → label rows ps x ≡ label rows ps y → f x ≡ f y) → ((label rows ps v ≡ label rows ps p.0) ⊎ (label rows ps v ≡ label rows ps (rows + p.1))) ⊎ ((label rows ps v ≢ label rows ps p.0) × (label rows ps v ≢ label rows ps (rows + p.1)))
         → ((label rows ps w ≡ label rows ps p.0) ⊎ (label rows ps w ≡ label rows ps (rows + p.1))) ⊎ ((label rows ps w ≢ label rows ps p.0) × (label rows ps w ≢ label rows ps (rows + p.1))) → f v ≡ f w
-    at (inl h) (inl k) = same v h ∙ sym (same w k)
-    at (inl h) (inr k) = absurd (apart v w h k e)
-    at (inr h) (inl k) = absurd (apart w v k h (sym e))
-    at (inr h) (inr k) = rest v w (sym (merged_out (label rows ps) p.0 (rows + p.1) v h.0 h.1) ∙ e ∙ merged_out (label rows ps) p.0 (rows + p.1) w k.0 k.1)
+    at rest (inl h) (inl k) = same rest v h ∙ sym (same rest w k)
+    at rest (inl h) (inr k) = absurd (apart v w h k e)
+    at rest (inr h) (inl k) = absurd (apart w v k h (sym e))
+    at rest (inr h) (inr k) = rest v w (sym (merged_out (label rows ps) p.0 (rows + p.1) v h.0 h.1) ∙ e ∙ merged_out (label rows ps) p.0 (rows + p.1) w k.0 k.1)
 
 -- ---- crossings that have one label
 
@@ -148,12 +136,14 @@ module _ (rows cols : ℕ) (cross : List (ℕ × ℕ)) (within : IsWithin rows c
     where
       kept : (ps : List (ℕ × ℕ)) → AllByRecursion (Agree rows (label rows part)) (filter (λ p. nat_eq (label rows cross p.0) i) ps) → AllByRecursion (λ p. nat_eq (label rows cross p.0) i ≡ true → Agree rows (label rows part) p) ps
       kept [] all = tt
-      kept (p ∷ ps) all = by (nat_eq (label rows cross p.0) i) refl all
+      kept (p ∷ ps) all = by (nat_eq (label rows cross p.0) i) refl (kept ps) all
         where
-          by : (b : Bool) → nat_eq (label rows cross p.0) i ≡ b → AllByRecursion (Agree rows (label rows part)) (cond b (p ∷ filter (λ p. nat_eq (label rows cross p.0) i) ps) (filter (λ p. nat_eq (label rows cross p.0) i) ps))
+          by : (b : Bool) → nat_eq (label rows cross p.0) i ≡ b
+              → (AllByRecursion (Agree rows (label rows part)) (filter (λ p. nat_eq (label rows cross p.0) i) ps) → AllByRecursion (λ p. nat_eq (label rows cross p.0) i ≡ true → Agree rows (label rows part) p) ps)
+              → AllByRecursion (Agree rows (label rows part)) (cond b (p ∷ filter (λ p. nat_eq (label rows cross p.0) i) ps) (filter (λ p. nat_eq (label rows cross p.0) i) ps))
               → AllByRecursion (λ p. nat_eq (label rows cross p.0) i ≡ true → Agree rows (label rows part) p) (p ∷ ps)
-          by true e a = ((λ h. a.0), kept ps a.1)
-          by false e a = ((λ h. absurd (true≢false (sym h ∙ e))), kept ps a)
+          by true e rest a = ((λ h. a.0), rest a.1)
+          by false e rest a = ((λ h. absurd (true≢false (sym h ∙ e))), rest a)
 
       same : (b : Bool) (x y : ℕ) → (b ≡ true → x ≡ y) → (if b then x else 0) ≡ (if b then y else 0)
       same true x y h = h refl
@@ -234,7 +224,7 @@ only_one (x ∷ y ∷ xs) e = absurd (omega (arith, e))
 
 rank_all : (T : ℕ → Bool) (n : ℕ) → ((x : ℕ) → x < n → T x ≡ true) → (x : ℕ) → x ≤ n → how_many_below x T ≡ x
 rank_all T n all zero low = refl
-rank_all T n all (suc x) low = omega (arith, rank_next T x, rank_all T n all x (omega arith), ap (λ (b : Bool). if b then 1 else 0) (all x (omega arith)))
+rank_all T n all (suc x) low = omega (arith, rank_next T x, rank_all T n all x (omega arith), ap bit (all x (omega arith)))
 
 -- two rows, or two columns, have two crossings
 two_met : (key : ℕ × ℕ → ℕ) (ps : List (ℕ × ℕ)) → list_any (λ p. nat_eq (key p) 0) ps ≡ true → list_any (λ p. nat_eq (key p) 1) ps ≡ true → 2 ≤ length ps

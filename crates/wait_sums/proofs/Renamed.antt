@@ -84,22 +84,25 @@ keys_found key (p ∷ ps) = (
 -- what passes is one that has the fact
 pub any_from : {A : Type 0} (P : A → Type 0) (Q : Type 0) (test : A → Bool) (xs : List A) → AllByRecursion P xs → ((x : A) → P x → test x ≡ true → Q) → list_any test xs ≡ true → Q
 any_from P Q test [] all h e = absurd (true≢false (sym e))
-any_from P Q test (x ∷ xs) all h e = by (test x) refl e
+any_from P Q test (x ∷ xs) all h e = by (test x) refl (any_from P Q test xs all.1 h) e
   where
-    by : (b : Bool) → test x ≡ b → (b || list_any test xs) ≡ true → Q
-    by true t o = h x all.0 t
-    by false t o = any_from P Q test xs all.1 h o
+    by : (b : Bool) → test x ≡ b → (list_any test xs ≡ true → Q) → (b || list_any test xs) ≡ true → Q
+    by true t rest o = h x all.0 t
+    by false t rest o = rest o
 
 -- ---- numbers by how many pass a test before them
 
+abbrev pub bit : Bool → ℕ
+bit b = if b then 1 else 0
+
 one_more : (T : ℕ → Bool) (a n : ℕ) → how_many T (range_with_len a (suc n)) ≡ how_many T (range_with_len a n) + (if T (a + n) then 1 else 0)
-one_more T a zero = let e : a ≡ a + 0 = omega arith in omega (arith, ap (λ (k : ℕ). if T k then 1 else 0) e)
+one_more T a zero = let e : a ≡ a + 0 = omega arith in omega (arith, ap (λ (k : ℕ). bit (T k)) e)
 one_more T a (suc n) =
     let e : a + 1 + n ≡ a + suc n = omega arith in
-    omega (arith, one_more T (a + 1) n, ap (λ (k : ℕ). if T k then 1 else 0) e)
+    omega (arith, one_more T (a + 1) n, ap (λ (k : ℕ). bit (T k)) e)
 
 pub rank_next : (T : ℕ → Bool) (x : ℕ) → how_many_below (suc x) T ≡ how_many_below x T + (if T x then 1 else 0)
-rank_next T x = let e : 0 + x ≡ x = omega arith in omega (arith, one_more T 0 x, ap (λ (k : ℕ). if T k then 1 else 0) e)
+rank_next T x = let e : 0 + x ≡ x = omega arith in omega (arith, one_more T 0 x, ap (λ (k : ℕ). bit (T k)) e)
 
 pub counted : (T : ℕ → Bool) (xs : List ℕ) → how_many T xs ≡ length (filter T xs)
 counted T [] = refl
@@ -118,7 +121,7 @@ rank_low T x (suc k) =
 pub rank_grows : (T : ℕ → Bool) (x y : ℕ) → T x ≡ true → x < y → how_many_below x T < how_many_below y T
 rank_grows T x y t less =
     let e : suc x + (y - suc x) ≡ y = omega arith in
-    omega (arith, rank_low T (suc x) (y - suc x), rank_next T x, ap (λ (b : Bool). if b then 1 else 0) t, ap (λ (n : ℕ). how_many_below n T) e)
+    omega (arith, rank_low T (suc x) (y - suc x), rank_next T x, ap bit t, ap (λ (n : ℕ). how_many_below n T) e)
 
 -- the numbers of those that pass, where others may be left out of either
 numbered : (T test after : ℕ → Bool) (rank : ℕ → ℕ) → ((x : ℕ) → rank (suc x) ≡ rank x + (if T x then 1 else 0)) → (a n : ℕ)
