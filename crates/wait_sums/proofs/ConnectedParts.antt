@@ -153,7 +153,7 @@ module _ (rows cols : ℕ) (cross : List (ℕ × ℕ)) (within : IsWithin rows c
       both [] a b = tt
       both (p ∷ ps) a b = (
         same (nat_eq (label rows cross p.0) i) (label rows part p.0) (label rows part (rows + p.1)) b.0
-        ∙ ap (λ (k : ℕ). if nat_eq k i then label rows part (rows + p.1) else 0) a.0,
+            ∙ ap (λ (k : ℕ). if nat_eq k i then label rows part (rows + p.1) else 0) a.0,
         both ps a.1 b.1,
       )
 

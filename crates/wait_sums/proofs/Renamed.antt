@@ -168,7 +168,7 @@ module _ (S : ℕ → Type 0) (F : ℕ → ℕ) (grows : (v w : ℕ) → S v →
     | inl e ↦ eq-eqb (F x) (F y) (ap F e) ∙ sym (eq-eqb x y e)
     | inr d ↦
         ne_eqb (F x) (F y)
-            (λ e. elim (cases_lt x y) [ inl l ↦ omega (arith, grows x y a b l, e) | inr h ↦ elim (cases_lt y x) [ inl l ↦ omega (arith, grows y x b a l, e) | inr k ↦ d (omega arith) ] ])
+        (λ e. elim (cases_lt x y) [ inl l ↦ omega (arith, grows x y a b l, e) | inr h ↦ elim (cases_lt y x) [ inl l ↦ omega (arith, grows y x b a l, e) | inr k ↦ d (omega arith) ] ])
         ∙ sym (ne_eqb x y d)
   ]
 
@@ -190,9 +190,9 @@ module _ (S : ℕ → Type 0) (F : ℕ → ℕ) (grows : (v w : ℕ) → S v →
       × S (if nat_eq x y || nat_eq x z then lesser y z else x)
   merged_kept x y z a b c = (
     ap (λ (t : Bool). if t || nat_eq (F x) (F z) then lesser (F y) (F z) else F x) (eq_kept x y a b)
-    ∙ ap (λ (t : Bool). if nat_eq x y || t then lesser (F y) (F z) else F x) (eq_kept x z a c)
-    ∙ ap (λ n. if nat_eq x y || nat_eq x z then n else F x) (lesser_kept y z b c)
-    ∙ by (nat_eq x y || nat_eq x z),
+        ∙ ap (λ (t : Bool). if nat_eq x y || t then lesser (F y) (F z) else F x) (eq_kept x z a c)
+        ∙ ap (λ n. if nat_eq x y || nat_eq x z then n else F x) (lesser_kept y z b c)
+        ∙ by (nat_eq x y || nat_eq x z),
     within (nat_eq x y || nat_eq x z),
   )
     where
@@ -232,23 +232,23 @@ module _ (rows cols : ℕ) (cross : List (ℕ × ℕ)) (within : IsWithin rows c
   abbrev inside : AllByRecursion (λ p. (p.0 < rows) × (p.1 < cols)) cross
   inside = inside_of rows cols cross within
 
-  abbrev row_rank : ℕ → ℕ
+  abbrev pub row_rank : ℕ → ℕ
   row_rank x = how_many_below x (has_row cross)
 
-  abbrev column_rank : ℕ → ℕ
+  abbrev pub column_rank : ℕ → ℕ
   column_rank x = how_many_below x (has_column cross)
 
   -- the rows, and the columns, that there are
-  abbrev R : ℕ
+  abbrev pub R : ℕ
   R = length (part_rows rows cross)
 
-  abbrev C : ℕ
+  abbrev pub C : ℕ
   C = length (part_columns cols cross)
 
-  rows_are : R ≡ row_rank rows
+  pub rows_are : R ≡ row_rank rows
   rows_are = sym (counted (has_row cross) (range_with_len 0 rows))
 
-  abbrev loc : ℕ × ℕ → ℕ × ℕ
+  abbrev pub loc : ℕ × ℕ → ℕ × ℕ
   loc = local_crossing cross
 
   -- a line with a crossing
@@ -270,10 +270,10 @@ module _ (rows cols : ℕ) (cross : List (ℕ × ℕ)) (within : IsWithin rows c
   grows v w (inr (a, s)) (inl (b, t)) less = absurd (omega arith)
   grows v w (inr (a, s)) (inr (b, t)) less = omega (arith, column_name v a, column_name w b, rank_grows (has_column cross) (v - rows) (w - rows) s (omega arith))
 
-  abbrev Mine : ℕ × ℕ → Type 0
+  abbrev pub Mine : ℕ × ℕ → Type 0
   Mine p = (p.0 < rows) × (p.1 < cols) × (has_row cross p.0 ≡ true) × (has_column cross p.1 ≡ true)
 
-  mine : AllByRecursion Mine cross
+  pub mine : AllByRecursion Mine cross
   mine = all_three cross inside (keys_found (λ p. p.0) cross) (keys_found (λ p. p.1) cross)
     where
       all_three : (xs : List (ℕ × ℕ)) → AllByRecursion (λ p. (p.0 < rows) × (p.1 < cols)) xs → AllByRecursion (λ p. has_row cross p.0 ≡ true) xs → AllByRecursion (λ p. has_column cross p.1 ≡ true) xs → AllByRecursion Mine xs
@@ -299,8 +299,7 @@ module _ (rows cols : ℕ) (cross : List (ℕ × ℕ)) (within : IsWithin rows c
   part_named : (p : ℕ × ℕ) → Mine p → (label R (map loc cross) (loc p).0 ≡ row_rank (label rows cross p.0)) × (label rows cross p.0 < rows) × (has_row cross (label rows cross p.0) ≡ true)
   part_named p m =
       let (e, s) = labels p.0 (inl (m.0, m.2)) in
-      let low : label rows cross p.0 < rows = omega (arith, label_low rows cross p.0, m.0) in
-      (
+      let low : label rows cross p.0 < rows = omega (arith, label_low rows cross p.0, m.0) in (
         ap (label R (map loc cross)) (sym (row_name p.0 m.0)) ∙ e ∙ row_name (label rows cross p.0) low,
         low,
         elim s [ inl h ↦ h.1 | inr h ↦ absurd (omega (arith, h.0, low)) ],
@@ -312,19 +311,19 @@ module _ (rows cols : ℕ) (cross : List (ℕ × ℕ)) (within : IsWithin rows c
   column_eq : (x y : ℕ) → has_column cross x ≡ true → has_column cross y ≡ true → nat_eq (column_rank x) (column_rank y) ≡ nat_eq x y
   column_eq x y s t = eq_kept (λ z. has_column cross z ≡ true) column_rank (λ v w a b less. rank_grows (has_column cross) v w a less) x y s t
 
-  row_low : (x : ℕ) → has_row cross x ≡ true → x < rows
+  pub row_low : (x : ℕ) → has_row cross x ≡ true → x < rows
   row_low x h = any_from (λ p. (p.0 < rows) × (p.1 < cols)) (x < rows) (λ p. nat_eq p.0 x) cross inside (λ p m e. omega (arith, m.0, eqb-true p.0 x e)) h
 
   -- ---- some of the crossings
 
   module _ (part : List (ℕ × ℕ)) (all : AllByRecursion Mine part) where
-    row_kept : (x : ℕ) → has_row cross x ≡ true → has_row (map loc part) (row_rank x) ≡ has_row part x
+    pub row_kept : (x : ℕ) → has_row cross x ≡ true → has_row (map loc part) (row_rank x) ≡ has_row part x
     row_kept x h =
         any_mapped (λ p. nat_eq p.0 (row_rank x)) loc part
         ∙ any_same (λ p. nat_eq (row_rank p.0) (row_rank x)) (λ p. nat_eq p.0 x) part
         (all_by Mine (λ p. nat_eq (row_rank p.0) (row_rank x) ≡ nat_eq p.0 x) (λ p m. row_eq p.0 x m.0 (row_low x h) m.2 h) part all)
 
-    column_kept : (x : ℕ) → has_column cross x ≡ true → has_column (map loc part) (column_rank x) ≡ has_column part x
+    pub column_kept : (x : ℕ) → has_column cross x ≡ true → has_column (map loc part) (column_rank x) ≡ has_column part x
     column_kept x h =
         any_mapped (λ p. nat_eq p.1 (column_rank x)) loc part
         ∙ any_same (λ p. nat_eq (column_rank p.1) (column_rank x)) (λ p. nat_eq p.1 x) part

@@ -1,7 +1,7 @@
 //! Each function here does nothing, and its contract is the law.
-ghost use Rattle.std.specs.Prelude.{◌≡◌, ℕ, ◌<◌, ◌≤◌, List, length};
-ghost use Rattle.basic_kinds.specs.Shapes.{IsShape};
-ghost use Rattle.basic_kinds.specs.ShapeParts.{exchanged, part_at, part_names};
+ghost use Rattle.std.specs.Prelude.{◌≡◌, ℕ, ◌<◌, ◌≤◌, List, length, IsTrue};
+ghost use Rattle.basic_kinds.specs.Shapes.{IsShape, is_rising};
+ghost use Rattle.basic_kinds.specs.ShapeParts.{exchanged, local_part, part_at, part_columns, part_names, part_rows};
 ghost use Rattle.basic_kinds.specs.Sorts.{Sort, Waits};
 ghost use Rattle.basic_kinds.specs.Sums.{layer_sum, so_many, sum_over, wait_sum};
 ghost use Rattle.wait_sums.specs.WaitSums.{IsConnected, IsWithin, own_sum, part_alone};
@@ -34,4 +34,10 @@ pub fn columns_law()
 pub fn small_law()
     ensures { (rows cols : ℕ) (cross : List (ℕ × ℕ)) (s : Sort) → IsShape rows cols cross → IsConnected rows cross
         → rows ≤ 2 → cols ≤ 2 → 2 ≤ length cross → wait_sum rows cols cross s ≡ so_many 1 Waits s }
+{}
+
+/// Rising crossings with only the lines that they meet, numbered anew in their order, are a shape.
+pub fn shape_law()
+    ensures { (rows cols : ℕ) (cross : List (ℕ × ℕ)) → IsWithin rows cols cross → IsTrue (is_rising cross) → 0 < length cross
+        → IsShape (length (part_rows rows cross)) (length (part_columns cols cross)) (local_part cross) }
 {}

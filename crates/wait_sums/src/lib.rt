@@ -3,4 +3,4 @@
 
 mod laws;
 
-pub use laws::{columns_law, connected_law, crossings_law, parts_law, small_law};
+pub use laws::{columns_law, connected_law, crossings_law, parts_law, shape_law, small_law};
