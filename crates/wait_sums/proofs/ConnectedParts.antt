@@ -1,6 +1,6 @@
 -- The sum of a DW is that of its parts, each by itself; and of one part that of its layer.
 use Rattle.std.specs.Prelude.{◌&&◌, ◌||◌, if◌then◌else◌, nat_eq, nat_lt}
-use Rattle.std.proofs.Common.{◌≡◌, ◌≢◌, ◌⊎◌, inl, inr, ℕ, zero, suc, ◌+◌, ◌-◌, ◌<◌, ◌≤◌, Bool, true, false, true≢false, cond, List, [], ◌∷◌, length, map, get_or, refl, sym, ap, subst, ◌∙◌, arith, eq-eqb, ne_eqb, eqb-true, lt-ltb, le-ltb, ltb-true}
+use Rattle.std.proofs.Common.{◌≡◌, ◌≢◌, ◌⊎◌, inl, inr, ℕ, zero, suc, ◌+◌, ◌<◌, ◌≤◌, Bool, true, false, true≢false, cond, List, [], ◌∷◌, length, map, get_or, refl, sym, ap, ◌∙◌, arith, eq-eqb, ne_eqb, eqb-true, lt-ltb, le-ltb}
 use Rattle.std.specs.List.{filter, list_all, list_any, range_with_len, AllByRecursion}
 use Rattle.std.proofs.lemmas.Bool.{and_parts, cases_eq, cases_lt, cond-true, cond-false}
 use Rattle.std.proofs.lemmas.List.{length-map}
@@ -12,8 +12,8 @@ use Rattle.shape_parts.proofs.Chosen.{place_at}
 use Rattle.shape_parts.proofs.Labelled.{labels_agree, label_low}
 use Rattle.shape_parts.proofs.Links.{merged_in, merged_out}
 use Rattle.wait_sums.specs.WaitSums.{IsWithin, IsConnected, own_sum, part_alone}
-use Rattle.wait_sums.proofs.WaitLayers.{by_parts, range_long}
-use Rattle.wait_sums.proofs.Renamed.{all_by, all_kept, any_from, any_same, bit, counted, crossings_count, inside_of, keys_found, rank_next, sum_all}
+use Rattle.wait_sums.proofs.WaitLayers.{by_parts}
+use Rattle.wait_sums.proofs.Renamed.{all_by, all_kept, bit, counted, crossings_count, inside_of, keys_found, rank_next}
 
 all_from : {A : Type 0} (P : A → Type 0) (d : A) (xs : List A) → ((n : ℕ) → n < length xs → P (get_or xs n d)) → AllByRecursion P xs
 all_from P d [] h = tt

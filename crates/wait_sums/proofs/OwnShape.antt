@@ -1,14 +1,14 @@
 -- Crossings with only the lines that they meet, numbered anew in their order, are a shape.
-use Rattle.std.specs.Prelude.{◌&&◌, ◌||◌, if◌then◌else◌, nat_eq, nat_lt}
-use Rattle.std.proofs.Common.{◌≡◌, ◌⊎◌, inl, inr, ℕ, zero, suc, ◌+◌, ◌-◌, ◌<◌, ◌≤◌, Bool, true, false, true≢false, List, [], ◌∷◌, length, map, get_or, IsTrue, refl, sym, ap, subst, ◌∙◌, arith, eq-eqb, eqb-true, lt-ltb, ltb-true}
-use Rattle.std.specs.List.{filter, list_all, list_any, range_with_len, AllByRecursion}
-use Rattle.std.proofs.lemmas.Bool.{and_parts, cases_Bool}
+use Rattle.std.specs.Prelude.{◌&&◌, ◌||◌, nat_eq, nat_lt}
+use Rattle.std.proofs.Common.{◌≡◌, ◌⊎◌, inl, inr, ℕ, ◌-◌, ◌<◌, Bool, true, false, List, [], ◌∷◌, length, map, get_or, IsTrue, refl, sym, ap, ◌∙◌, arith, eq-eqb, eqb-true, lt-ltb, ltb-true}
+use Rattle.std.specs.List.{filter, list_all, range_with_len, AllByRecursion}
+use Rattle.std.proofs.lemmas.Bool.{and_parts}
 use Rattle.basic_kinds.specs.Shapes.{is_before, is_rising, is_within, IsShape}
 use Rattle.basic_kinds.specs.Sorts.{how_many, how_many_below}
 use Rattle.basic_kinds.specs.ShapeParts.{has_row, has_column, part_rows, part_columns, local_part}
 use Rattle.shape_parts.proofs.Chosen.{IsChosen, chosen_at}
 use Rattle.wait_sums.specs.WaitSums.{IsWithin}
-use Rattle.wait_sums.proofs.Renamed.{all_by, any_from, counted, rank_grows, mine, Mine, row_rank, column_rank, rows_are, row_kept, column_kept, loc, R, C}
+use Rattle.wait_sums.proofs.Renamed.{counted, rank_grows, mine, Mine, row_kept, column_kept, loc}
 
 both_true : (a b : Bool) → a ≡ true → b ≡ true → (a && b) ≡ true
 both_true a b e f = ap (λ (x : Bool). x && b) e ∙ f

@@ -6,7 +6,7 @@ use Rattle.std.proofs.lemmas.Bool.{and_parts, cases_eq, cases_lt, cond-true, con
 use Rattle.std.proofs.lemmas.List.{length-map}
 use Rattle.basic_kinds.specs.Shapes.{is_within}
 use Rattle.basic_kinds.specs.Sorts.{Sort, how_many, how_many_below}
-use Rattle.basic_kinds.specs.ShapeParts.{label, lesser, merged, has_row, has_column, part_at, part_names, part_rows, part_columns, local_part, local_crossing}
+use Rattle.basic_kinds.specs.ShapeParts.{label, lesser, has_row, has_column, part_at, part_names, part_rows, part_columns, local_part, local_crossing}
 use Rattle.basic_kinds.specs.Sums.{sum_over, part_sum, sum_of_part, wait_sum}
 use Rattle.shape_parts.proofs.Labelled.{label_low}
 use Rattle.wait_sums.specs.WaitSums.{IsWithin, own_sum}
