@@ -1,0 +1,2 @@
+pub mod PartKind
+pub mod PartsNet
