@@ -1,1 +1,3 @@
 pub mod WaitRule
+pub mod PartLists
+pub mod PartsWeb

@@ -60,6 +60,12 @@ pub range_distinct : (a n : ℕ) → Distinct (range_with_len a n)
 range_distinct a zero = tt
 range_distinct a (suc n) = ((λ h. let (low, high) = range_low (a + 1) n a h in omega arith), range_distinct (a + 1) n)
 
+pub in_range : (n x : ℕ) → x < n → Among x (range_with_len 0 n)
+in_range n x low = range_among 0 n x (omega arith) (omega arith)
+
+pub range_in : (n x : ℕ) → Among x (range_with_len 0 n) → x < n
+range_in n x a = omega (arith, (range_low 0 n x a).1)
+
 pub chosen_among : (test : ℕ → Bool) (n x : ℕ) → x < n → test x ≡ true → Among x (filter test (range_with_len 0 n))
 chosen_among test n x low t = filter_among test (range_with_len 0 n) x (range_among 0 n x (omega arith) (omega arith)) t
 
@@ -97,10 +103,6 @@ rising_kept test (p ∷ ps) h =
 all_from : {A : Type 0} (P : A → Type 0) (d : A) (xs : List A) → ((n : ℕ) → n < length xs → P (get_or xs n d)) → AllByRecursion P xs
 all_from P d [] h = tt
 all_from P d (x ∷ xs) h = (h 0 (omega arith), all_from P d xs (λ n low. h (suc n) (omega arith)))
-
--- one that passes stands at a place
-any_place : (test : ℕ × ℕ → Bool) (xs : List (ℕ × ℕ)) → list_any test xs ≡ true → (n : ℕ) × (n < length xs) × (test (get_or xs n (0, 0)) ≡ true)
-any_place test xs h = any_at test xs h
 
 and_false : (a b : Bool) → (a && b) ≡ true → b ≡ true
 and_false true b e = e
@@ -199,7 +201,7 @@ module _ (s : Shape) where
   pub name_in : (i : ℕ) → Among i names → (x : ℕ) × (x < many) × (of_place x ≡ i)
   name_in i a =
       let (low, h) = among_chosen (λ i. list_any (λ p. nat_eq (label s.rows s.cross p.0) i) s.cross) s.rows i a in
-      let (x, inside, e) = any_place (λ p. nat_eq (label s.rows s.cross p.0) i) s.cross h in
+      let (x, inside, e) = any_at (λ p. nat_eq (label s.rows s.cross p.0) i) s.cross h in
       (x, inside, eqb-true (of_place x) i e)
 
   pub in_names : (x : ℕ) → x < many → Among (of_place x) names
@@ -209,10 +211,10 @@ module _ (s : Shape) where
 
   -- each line has a crossing
   pub row_place : (r : ℕ) → r < s.rows → (x : ℕ) × (x < many) × (row_at s.cross x ≡ r)
-  row_place r low = let (x, inside, e) = any_place (λ p. nat_eq p.0 r) s.cross (s.whole.each_row r low) in (x, inside, eqb-true (row_at s.cross x) r e)
+  row_place r low = let (x, inside, e) = any_at (λ p. nat_eq p.0 r) s.cross (s.whole.each_row r low) in (x, inside, eqb-true (row_at s.cross x) r e)
 
   pub column_place : (c : ℕ) → c < s.cols → (x : ℕ) × (x < many) × (column_at s.cross x ≡ c)
-  column_place c low = let (x, inside, e) = any_place (λ p. nat_eq p.1 c) s.cross (s.whole.each_column c low) in (x, inside, eqb-true (column_at s.cross x) c e)
+  column_place c low = let (x, inside, e) = any_at (λ p. nat_eq p.1 c) s.cross (s.whole.each_column c low) in (x, inside, eqb-true (column_at s.cross x) c e)
 
   -- ---- a part as a list of crossings
 
