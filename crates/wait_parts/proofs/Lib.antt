@@ -1,3 +1,4 @@
 pub mod WaitRule
 pub mod PartLists
 pub mod PartsWeb
+pub mod PartKinds
