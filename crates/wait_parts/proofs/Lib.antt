@@ -2,3 +2,4 @@ pub mod WaitRule
 pub mod PartLists
 pub mod PartsWeb
 pub mod PartKinds
+pub mod PartsChart
