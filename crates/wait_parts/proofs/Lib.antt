@@ -3,3 +3,4 @@ pub mod PartLists
 pub mod PartsWeb
 pub mod PartKinds
 pub mod PartsChart
+pub mod PartsLayer
