@@ -4,3 +4,4 @@ pub mod PartsWeb
 pub mod PartKinds
 pub mod PartsChart
 pub mod PartsLayer
+pub mod NodeSteps
