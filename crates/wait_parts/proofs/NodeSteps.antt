@@ -1,18 +1,17 @@
 -- What the code of the network makes, step by step.
-use Rattle.std.proofs.Common.{◌≡◌, ◌≢◌, ℕ, zero, suc, ◌+◌, ◌<◌, ◌≤◌, ◌^◌, List, [], ◌∷◌, ◌++◌, length, map, get_or, Result, Ok, Err, refl, sym, ap, ◌∙◌, subst, arith}
+use Rattle.std.proofs.Common.{◌≡◌, ◌≢◌, ℕ, zero, suc, ◌+◌, ◌<◌, List, [], ◌∷◌, ◌++◌, length, map, get_or, Result, Ok, Err, refl, sym, ap, ◌∙◌, subst, arith}
 use Rattle.std.specs.Prelude.{IfOk}
-use Rattle.std.specs.List.{AllByRecursion, filter, range_with_len}
+use Rattle.std.specs.List.{AllByRecursion, range_with_len}
 use Rattle.basic_kinds.specs.declared.kind.Kind.{Kind}
 use Rattle.basic_kinds.specs.declared.kind.Kind.TheVariants as kind
 use Rattle.basic_kinds.specs.declared.shape.Shape.{Shape}
 use Rattle.basic_kinds.specs.Shapes.{IsShape}
-use Rattle.basic_kinds.specs.ShapeParts.{has_column}
 use Rattle.net_core.specs.declared.spec.NodeSpec.TheVariants.{Kind as Basic}
 use Rattle.net_core.specs.Wiring.{Node, Circuit}
 use Rattle.net_laws.proofs.Among.{Among}
 use Rattle.shape_parts.specs.declared.cut.ShapePart.{ShapePart}
 use Rattle.shape_parts.specs.Cut.{part_of, parts_of}
-use Rattle.wait_parts.specs.PartKind.{is_shape, shape_from, dw_of, part_kind}
+use Rattle.wait_parts.specs.PartKind.{dw_of, part_kind}
 use Rattle.wait_parts.specs.PartsNet.{part_node, parts_circuit}
 use Rattle.wait_parts.specs.Mirror.Known.{IsKnown}
 use Rattle.wait_parts.proofs.PartLists.{names, row_in, column_in, place_in, rows_of, columns_of, places_of}

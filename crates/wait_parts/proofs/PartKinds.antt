@@ -1,6 +1,6 @@
 -- What stands for a part of a shape: its kind, and what its traces are.
 use Rattle.std.specs.Prelude.{nat_eq, nat_lt, ◌&&◌}
-use Rattle.std.proofs.Common.{◌≡◌, ◌↔◌, ◌⊎◌, inl, inr, ℕ, zero, suc, ◌+◌, ◌<◌, ◌≤◌, ◌^◌, Bool, true, false, true≢false, List, [], ◌∷◌, ◌++◌, length, map, get_or, refl, sym, ap, ◌∙◌, subst, arith, lt-ltb, length-append}
+use Rattle.std.proofs.Common.{◌≡◌, ◌↔◌, ◌⊎◌, inl, inr, ℕ, zero, suc, ◌+◌, ◌<◌, ◌≤◌, ◌^◌, Bool, true, false, true≢false, List, [], ◌∷◌, ◌++◌, length, map, get_or, refl, sym, ap, ◌∙◌, subst, arith, lt-ltb}
 use Rattle.std.specs.List.{list_all, range_with_len}
 use Rattle.std.proofs.lemmas.List.{get_or-map, length-map}
 use Rattle.std.proofs.lemmas.List.FromFn.{get_or-range_with_len, length-range_with_len}
@@ -19,7 +19,7 @@ use Rattle.net_laws.proofs.Rows.{among_either, distinct_both}
 use Rattle.wait_sums.proofs.WaitLayers.{filter_low}
 use Rattle.wait_parts.specs.PartKind.{all_below, is_shape, shape_from, dw_by, dw_of, part_kind}
 use Rattle.wait_parts.proofs.WaitRule.{Wire, Row, Column, Out, same_wire, row_at, column_at, MeetOn, Shaped, meet_ports, dw_may, c_may}
-use Rattle.wait_parts.proofs.PartLists.{in_range, range_distinct, names, part, rows_of, columns_of, places_of, of_place, place_row, place_column, place_agrees, row_in, in_rows, column_in, in_columns, place_in, in_places, rows_once, columns_once, places_once, name_in, row_place, column_place, part_listed, as_many, part_shape, row_numbered, column_numbered}
+use Rattle.wait_parts.proofs.PartLists.{range_distinct, names, part, rows_of, columns_of, places_of, place_row, place_column, place_agrees, row_in, in_rows, column_in, in_columns, place_in, in_places, rows_once, columns_once, places_once, name_in, row_place, column_place, part_listed, as_many, part_shape, row_numbered, column_numbered}
 
 -- ---- what is a shape passes the test
 

@@ -1,13 +1,13 @@
 -- The rows, the columns and the crossings of each part of a shape.
-use Rattle.std.specs.Prelude.{◌&&◌, nat_eq, nat_lt}
-use Rattle.std.proofs.Common.{◌≡◌, ◌↔◌, ◌⊎◌, inl, inr, ℕ, zero, suc, ◌+◌, ◌-◌, ◌<◌, ◌≤◌, Bool, true, false, true≢false, cond, List, [], ◌∷◌, ◌++◌, length, map, get_or, IsTrue, refl, sym, ap, subst, ◌∙◌, arith, eq-eqb, eqb-true, ltb-true}
+use Rattle.std.specs.Prelude.{◌&&◌, nat_eq}
+use Rattle.std.proofs.Common.{◌≡◌, inl, inr, ℕ, zero, suc, ◌+◌, ◌<◌, ◌≤◌, Bool, true, false, true≢false, cond, List, [], ◌∷◌, length, map, get_or, refl, sym, ap, ◌∙◌, arith, eq-eqb, eqb-true}
 use Rattle.std.specs.List.{filter, list_all, list_any, range_with_len, AllByRecursion}
 use Rattle.std.proofs.lemmas.Bool.{and_parts, cases_lt}
 use Rattle.std.proofs.lemmas.List.{length-map}
 use Rattle.basic_kinds.specs.declared.shape.Shape.{Shape}
-use Rattle.basic_kinds.specs.Shapes.{is_before, is_rising, is_within, IsShape}
+use Rattle.basic_kinds.specs.Shapes.{is_before, is_rising, IsShape}
 use Rattle.basic_kinds.specs.Sorts.{how_many_below}
-use Rattle.basic_kinds.specs.ShapeParts.{label, has_row, has_column, part_at, part_names, part_rows, part_columns, local_part, local_crossing}
+use Rattle.basic_kinds.specs.ShapeParts.{label, has_row, has_column, part_at, part_names, part_rows, part_columns, local_part}
 use Rattle.basic_kinds.proofs.Crossings.{any_at}
 use Rattle.shape_parts.specs.Cut.{part_places}
 use Rattle.shape_parts.proofs.Chosen.{any_kept, any_member, filter_places, place_at}

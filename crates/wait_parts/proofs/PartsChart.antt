@@ -1,5 +1,5 @@
 -- The parts of a DW from names to numbers: the network of the parts is correct for the DW.
-use Rattle.std.proofs.Common.{◌≡◌, ◌↔◌, inl, inr, ℕ, zero, suc, ◌+◌, ◌<◌, ◌≤◌, ◌^◌, Bool, true, false, List, [], ◌∷◌, ◌++◌, length, map, get_or, replicate, refl, sym, ap, ◌∙◌, subst, arith, length-append}
+use Rattle.std.proofs.Common.{◌≡◌, ◌↔◌, inl, inr, ℕ, zero, suc, ◌+◌, ◌<◌, true, false, List, [], ◌∷◌, ◌++◌, length, map, get_or, replicate, refl, sym, ap, ◌∙◌, subst, arith, length-append}
 use Rattle.std.specs.Prelude.{IsTrue}
 use Rattle.std.specs.List.{AllByRecursion, range_with_len}
 use Rattle.std.proofs.lemmas.List.{length-map, map-append, map-id}
@@ -7,15 +7,14 @@ use Rattle.std.proofs.lemmas.List.FromFn.{length-range_with_len}
 use Rattle.basic_kinds.specs.declared.kind.Kind.TheVariants as kind
 use Rattle.basic_kinds.specs.declared.shape.Shape.{Shape}
 use Rattle.basic_kinds.specs.Kinds.{IsWellFormed}
-use Rattle.shape_parts.specs.Cut.{part_of, parts_of}
+use Rattle.shape_parts.specs.Cut.{part_of}
 use Rattle.net_core.specs.declared.spec.NodeSpec.{NodeSpec}
 use Rattle.net_core.specs.declared.spec.NodeSpec.TheVariants.{Kind as Basic}
 use Rattle.net_core.specs.Specs.{May, IsFormed, outs_of, sides, is_kind}
-use Rattle.net_core.specs.Wiring.{Node, Circuit}
+use Rattle.net_core.specs.Wiring.{Circuit}
 use Rattle.net_laws.specs.Charts.{Chart, node_of, charted}
 use Rattle.net_laws.specs.Implementing.{Implements}
 use Rattle.net_laws.proofs.Webs as webs
-use Rattle.net_laws.proofs.Told.{Lawful}
 use Rattle.net_laws.proofs.Paths.{Path, here}
 use Rattle.net_laws.proofs.Among.{Among, Distinct, all_map}
 use Rattle.net_laws.proofs.Routes.{Joined, Routes, routes_basic, routes_clean, routes_correct}
@@ -23,7 +22,7 @@ use Rattle.net_laws.proofs.Rows.{number_row, range_both, among_left, among_right
 use Rattle.wait_parts.specs.PartsNet.{ports_of, part_node, parts_circuit}
 use Rattle.wait_parts.proofs.WaitRule.{Wire, Row, Column, Out, meet_ports, MeetOn}
 use Rattle.wait_parts.proofs.PartLists.{in_range, range_in, names, rows_of, columns_of, places_of, of_row_line, of_column_line, of_place, place_agrees, row_in, in_rows, column_in, in_columns, place_in, in_places, names_once, in_names, row_place, column_place}
-use Rattle.wait_parts.proofs.PartKinds.{map_among, distinct_map, ports_cases, whole_may, whole_once, kind_of, ports, ports_once, part_may, part_formed, part_sides, kinds}
+use Rattle.wait_parts.proofs.PartKinds.{map_among, distinct_map, ports_cases, whole_may, whole_once, kind_of, ports, ports_once, part_may, part_formed, part_sides}
 use Rattle.wait_parts.proofs.PartsWeb.{driver, receiver, all_rows, all_columns, all_places, Rule, web, There, lawful, sound, exact}
 
 -- a fact of the members is a fact of all

@@ -1,33 +1,29 @@
 -- The parts of a DW are a layer of it: they are lighter, and what stands for them in the end is what stands for the DW.
 use Rattle.std.specs.Prelude.{nat_eq, nat_lt, not, ◌&&◌, ◌||◌, if◌then◌else◌}
-use Rattle.std.proofs.Common.{◌≡◌, ◌≢◌, ◌⊎◌, inl, inr, ℕ, zero, suc, ◌+◌, ◌-◌, ◌<◌, ◌≤◌, ◌^◌, Bool, true, false, true≢false, cond, List, [], ◌∷◌, length, map, get_or, refl, sym, ap, subst, ◌∙◌, arith, eq-eqb, ne_eqb, eqb-true, lt-ltb, le-ltb}
+use Rattle.std.proofs.Common.{◌≡◌, ◌≢◌, inl, inr, ℕ, ◌+◌, ◌<◌, ◌≤◌, Bool, true, false, true≢false, cond, List, [], ◌∷◌, length, map, refl, sym, ap, subst, ◌∙◌, arith, eq-eqb, ne_eqb, lt-ltb, le-ltb}
 use Rattle.std.specs.List.{AllByRecursion, filter, range_with_len, sum_by}
 use Rattle.std.proofs.lemmas.Bool.{cases_Bool, cases_eq, cond-true, cond-false}
-use Rattle.std.proofs.lemmas.List.{length-map}
 use Rattle.std.proofs.lemmas.List.FromFn.{length-range_with_len}
 use Rattle.std.proofs.lemmas.List.Sums.{sum_by-cons}
 use Rattle.basic_kinds.specs.declared.shape.Shape.{Shape}
-use Rattle.basic_kinds.specs.declared.kind.Kind.{Kind}
 use Rattle.basic_kinds.specs.declared.kind.Kind.TheVariants as kind
 use Rattle.basic_kinds.specs.Kinds.{IsWellFormed}
-use Rattle.basic_kinds.specs.ShapeParts.{label, has_row, part_at, part_names}
-use Rattle.basic_kinds.specs.Sorts.{Sort, Joins, Waits, Forks, same_sort}
-use Rattle.basic_kinds.specs.Sums.{so_many, sum_over, two_way_sum, wait_sum}
-use Rattle.shape_parts.specs.declared.cut.ShapePart.{ShapePart}
+use Rattle.basic_kinds.specs.ShapeParts.{has_row}
+use Rattle.basic_kinds.specs.Sorts.{Sort, Joins}
+use Rattle.basic_kinds.specs.Sums.{so_many, sum_over}
 use Rattle.shape_parts.specs.Cut.{part_of, parts_of}
 use Rattle.net_core.specs.declared.spec.NodeSpec.TheVariants.{Kind as Basic}
-use Rattle.net_core.specs.Wiring.{Node, Circuit}
-use Rattle.net_core.specs.Renumbering.{sum_of_parts}
+use Rattle.net_core.specs.Wiring.{Node}
 use Rattle.net_laws.proofs.Among.{Among, Distinct, all_map}
-use Rattle.two_way.specs.TwoWay.{is_two_way, is_connected, at_most_two, width, weight, counted_as}
+use Rattle.two_way.specs.TwoWay.{is_two_way, is_connected, at_most_two, weight}
 use Rattle.two_way.specs.Layers.{IsLighter, IsLayerOf, two_way_part}
 use Rattle.wait_sums.specs.WaitSums.{own_sum, part_alone}
 use Rattle.wait_sums.proofs.ConnectedParts.{parts_count}
 use Rattle.wait_sums.proofs.WaitLayers.{filter_low}
-use Rattle.wait_parts.specs.PartsNet.{is_cut, ports_of, part_node, parts_circuit}
+use Rattle.wait_parts.specs.PartsNet.{is_cut, part_node, parts_circuit}
 use Rattle.wait_parts.proofs.WaitRule.{row_at}
-use Rattle.wait_parts.proofs.PartLists.{chosen_among, in_range, names, part, rows_of, columns_of, places_of, of_row_line, of_place, place_row, row_in, names_once, name_in, as_many}
-use Rattle.wait_parts.proofs.PartKinds.{kind_of, kinds, local, own_shape, shape_of, few_rows, few_columns, few_places}
+use Rattle.wait_parts.proofs.PartLists.{chosen_among, in_range, names, part, rows_of, columns_of, places_of, of_row_line, place_row, row_in, names_once, name_in, as_many}
+use Rattle.wait_parts.proofs.PartKinds.{kind_of, kinds, local, own_shape, shape_of, few_columns, few_places}
 use Rattle.wait_parts.proofs.PartsChart.{all_members, parts_right}
 
 -- one that fails is not kept
@@ -97,8 +93,13 @@ module _ (s : Shape) (cut : is_cut s ≡ true) where
     lighter = elim (kinds s i named) [
       | inl (one, e) ↦ subst (λ k. weight k < weight (kind.Dw s)) (sym e) (let z = s.whole.some_row in omega (arith, weight_is, z))
       | inr (more, e) ↦ subst (λ k. weight k < weight (kind.Dw s)) (sym e)
-          (omega (arith, weight_is, at_most (is_two_way (kind.Dw (shape_of (length (rows_of s i)) (length (columns_of s i)) (local s i) (own_shape s i named)))) (length (rows_of s i) + length (columns_of s i)),
-          fewer_rows more, few_columns s i named))
+          (omega (
+            arith,
+            weight_is,
+            at_most (is_two_way (kind.Dw (shape_of (length (rows_of s i)) (length (columns_of s i)) (local s i) (own_shape s i named)))) (length (rows_of s i) + length (columns_of s i)),
+            fewer_rows more,
+            few_columns s i named,
+          ))
     ]
       where
         at_most : (b : Bool) (n : ℕ) → (if b then 0 else n) ≤ n

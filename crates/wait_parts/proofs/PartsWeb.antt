@@ -1,5 +1,5 @@
 -- The web of the parts of a DW: each wire leads between the environment and one part.
-use Rattle.std.proofs.Common.{◌≡◌, ◌⊎◌, inl, inr, ℕ, zero, suc, ◌+◌, ◌<◌, ◌≤◌, Bool, true, false, true≢false, cond, filter, nat_eq, List, [], ◌∷◌, length, refl, sym, ap, subst, ◌∙◌, arith, eq-eqb, eqb-true}
+use Rattle.std.proofs.Common.{◌≡◌, inl, inr, ℕ, zero, suc, ◌<◌, ◌≤◌, Bool, true, false, true≢false, cond, filter, nat_eq, List, [], ◌∷◌, length, refl, sym, ap, subst, ◌∙◌, arith, eq-eqb, eqb-true}
 use Rattle.std.specs.List.{range_with_len}
 use Rattle.std.proofs.lemmas.Bool.{cases_eq, cases_lt}
 use Rattle.cmd_tree.specs.Rounds.{same_number, tally, naught}
@@ -9,7 +9,7 @@ use Rattle.net_laws.proofs.Told.{Lawful, Flows}
 use Rattle.net_laws.proofs.Woven.{Grew, grew_le, grew_other, Reads, Counting, Keeps, Draws, give, show, web_sound, web_exact}
 use Rattle.net_laws.proofs.Among.{Among, Distinct}
 use Rattle.wait_parts.proofs.WaitRule.{Wire, Row, Column, Out, same_wire, wires_decide, sum_of, row_at, column_at, of_row, of_column, Meets, RowOn, ColumnOn, CrossOn, MeetOn}
-use Rattle.wait_parts.proofs.PartLists.{among_filter, filter_among, filter_distinct, in_range, range_in, range_distinct, many, rows_of, columns_of, places_of, of_row_line, of_column_line, of_place, place_row, place_column, place_agrees, row_in, in_rows, column_in, in_columns, place_in, in_places}
+use Rattle.wait_parts.proofs.PartLists.{among_filter, filter_among, filter_distinct, in_range, range_in, range_distinct, rows_of, columns_of, places_of, of_row_line, of_column_line, of_place, place_row, place_column, place_agrees, row_in, in_rows, column_in, in_columns, place_in, in_places}
 
 -- ---- sums over a list
 

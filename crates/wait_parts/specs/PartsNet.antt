@@ -1,5 +1,5 @@
 -- The network of the parts of a DW that is not connected, or has one crossing.
-use Rattle.std.specs.Prelude.{ℕ, ◌+◌, Bool, not, ◌||◌, nat_eq, List, ◌∷◌, ◌++◌, map, length}
+use Rattle.std.specs.Prelude.{ℕ, ◌+◌, Bool, not, ◌||◌, nat_eq, ◌∷◌, ◌++◌, map, length}
 use Rattle.std.specs.List.{range_with_len}
 use Rattle.basic_kinds.specs.declared.shape.Shape.{Shape}
 use Rattle.basic_kinds.specs.declared.kind.Kind.TheVariants.{Dw}

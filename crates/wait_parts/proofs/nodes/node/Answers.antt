@@ -1,9 +1,7 @@
-use Rattle.std.proofs.Common.{◌≡◌, ◌+◌, ◌<◌, ◌^◌, ℕ, List, length, map, sym, ap, subst, ◌∙◌, arith}
+use Rattle.std.proofs.Common.{◌≡◌, ◌+◌, ◌<◌, ◌^◌, ℕ, length, map, sym, ap, subst, ◌∙◌, arith}
 use Rattle.std.specs.List.{AllByRecursion}
 use Rattle.net_core.specs.declared.spec.NodeSpec.TheVariants.{Kind as Basic}
-use Rattle.net_core.specs.Wiring.{Node}
 use Rattle.wait_parts.specs.PartKind.{part_kind}
-use Rattle.wait_parts.specs.PartsNet.{part_node}
 use Rattle.wait_parts.proofs.NodeSteps.{all_weaker, ends_made}
 use Rattle.wait_parts.proofs.nodes.node.Goals as goal
 

@@ -1,7 +1,6 @@
 use Rattle.std.proofs.Common.{ap, ◌∙◌}
 use Rattle.basic_kinds.specs.declared.kind.Kind.TheVariants.{Dw}
 use Rattle.net_core.specs.declared.spec.NodeSpec.TheVariants.{Kind as Basic}
-use Rattle.net_core.specs.Wiring.{Node}
 use Rattle.wait_parts.proofs.NodeSteps.{dw_copied}
 use Rattle.wait_parts.proofs.nodes.outside.Goals as goal
 

@@ -1,4 +1,4 @@
-use Rattle.std.proofs.Common.{◌≡◌, arith, subst, sym}
+use Rattle.std.proofs.Common.{◌≡◌, subst, sym}
 use Rattle.std.specs.Prelude.{IfOk}
 use Rattle.basic_kinds.specs.declared.kind.Kind.{Kind}
 use Rattle.wait_parts.proofs.NodeSteps.{not_alone}

@@ -1,4 +1,4 @@
-use Rattle.std.proofs.Common.{◌≡◌, ◌+◌, ◌<◌, ◌^◌, ◌∷◌, map, length, sym, ap, subst, ◌∙◌, arith}
+use Rattle.std.proofs.Common.{◌≡◌, length, sym, ap, subst, ◌∙◌, arith}
 use Rattle.std.specs.Prelude.{IfOk}
 use Rattle.std.specs.List.{AllByRecursion}
 use Rattle.basic_kinds.specs.declared.kind.Kind.TheVariants.{Dw}
@@ -6,7 +6,7 @@ use Rattle.net_core.specs.Wiring.{Circuit, IsWired, IsClosed}
 use Rattle.net_core.proofs.Sizes.{nodes_few}
 use Rattle.shape_parts.specs.Cut.{parts_of}
 use Rattle.two_way.specs.Layers.{IsLayerOf}
-use Rattle.wait_parts.specs.PartsNet.{part_node, parts_circuit}
+use Rattle.wait_parts.specs.PartsNet.{parts_circuit}
 use Rattle.wait_parts.specs.Mirror.Known.{IsKnown}
 use Rattle.wait_parts.proofs.NodeSteps.{known_parts, net_made, result_is}
 use Rattle.wait_parts.proofs.PartsLayer.{parts_layer}
