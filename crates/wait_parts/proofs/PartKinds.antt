@@ -17,7 +17,7 @@ use Rattle.net_core.specs.Specs.{May, IsFormed, outs_of, sides}
 use Rattle.net_laws.proofs.Among.{Among, Distinct, at_among}
 use Rattle.net_laws.proofs.Rows.{among_either, distinct_both}
 use Rattle.wait_sums.proofs.WaitLayers.{filter_low}
-use Rattle.wait_parts.specs.PartKind.{all_below, is_shape, shape_from, dw_by, dw_of, part_kind}
+use Rattle.wait_parts.specs.PartKind.{all_below, has_lines, is_full, is_shape, shape_from, dw_by, dw_of, part_kind}
 use Rattle.wait_parts.proofs.WaitRule.{Wire, Row, Column, Out, same_wire, row_at, column_at, MeetOn, Shaped, meet_ports, dw_may, c_may}
 use Rattle.wait_parts.proofs.PartLists.{range_distinct, names, part, rows_of, columns_of, places_of, place_row, place_column, place_agrees, row_in, in_rows, column_in, in_columns, place_in, in_places, rows_once, columns_once, places_once, name_in, row_place, column_place, part_listed, as_many, part_shape, row_numbered, column_numbered}
 
@@ -32,11 +32,10 @@ all_below_true (suc k) test h = both_and (test k) (all_below k test) (h k (omega
 
 pub is_shape_true : (rows cols : ℕ) (cross : List (ℕ × ℕ)) → IsShape rows cols cross → is_shape rows cols cross ≡ true
 is_shape_true rows cols cross w =
-    both_and (nat_lt 0 rows) (nat_lt 0 cols && (is_rising cross && (list_all (is_within rows cols) cross && (all_below rows (has_row cross) && all_below cols (has_column cross))))) (lt-ltb 0 rows w.some_row)
-    (both_and (nat_lt 0 cols) (is_rising cross && (list_all (is_within rows cols) cross && (all_below rows (has_row cross) && all_below cols (has_column cross)))) (lt-ltb 0 cols w.some_column)
-    (both_and (is_rising cross) (list_all (is_within rows cols) cross && (all_below rows (has_row cross) && all_below cols (has_column cross))) w.rising
-    (both_and (list_all (is_within rows cols) cross) (all_below rows (has_row cross) && all_below cols (has_column cross)) w.within
-    (both_and (all_below rows (has_row cross)) (all_below cols (has_column cross)) (all_below_true rows (has_row cross) w.each_row) (all_below_true cols (has_column cross) w.each_column)))))
+    let inside : Bool = list_all (is_within rows cols) cross in
+    let lines = both_and (all_below rows (has_row cross)) (all_below cols (has_column cross)) (all_below_true rows (has_row cross) w.each_row) (all_below_true cols (has_column cross) w.each_column) in
+    let full = both_and (is_rising cross) (inside && has_lines rows cols cross) w.rising (both_and inside (has_lines rows cols cross) w.within lines) in
+    both_and (nat_lt 0 rows) (nat_lt 0 cols && is_full rows cols cross) (lt-ltb 0 rows w.some_row) (both_and (nat_lt 0 cols) (is_full rows cols cross) (lt-ltb 0 cols w.some_column) full)
 
 abbrev pub shape_of : (rows cols : ℕ) (cross : List (ℕ × ℕ)) → IsShape rows cols cross → Shape
 shape_of rows cols cross w = record { rows = rows; cols = cols; cross = cross; whole = w }

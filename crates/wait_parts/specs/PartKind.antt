@@ -14,10 +14,16 @@ abbrev pub all_below : ℕ → (ℕ → Bool) → Bool
 all_below zero test = true
 all_below (suc k) test = test k && all_below k test
 
--- the crossings rise, lie in range, and each of so many rows and columns has one
+-- each of so many rows and columns has a crossing
+abbrev pub has_lines : ℕ → ℕ → List (ℕ × ℕ) → Bool
+has_lines rows cols cross = all_below rows (has_row cross) && all_below cols (has_column cross)
+
+-- the crossings rise, lie in range, and meet all lines
+abbrev pub is_full : ℕ → ℕ → List (ℕ × ℕ) → Bool
+is_full rows cols cross = is_rising cross && (list_all (is_within rows cols) cross && has_lines rows cols cross)
+
 abbrev pub is_shape : ℕ → ℕ → List (ℕ × ℕ) → Bool
-is_shape rows cols cross = nat_lt 0 rows && (nat_lt 0 cols && (is_rising cross && (list_all (is_within rows cols) cross
-    && (all_below rows (has_row cross) && all_below cols (has_column cross)))))
+is_shape rows cols cross = nat_lt 0 rows && (nat_lt 0 cols && is_full rows cols cross)
 
 and_both : (a b : Bool) → (a && b) ≡ true → (a ≡ true) × (b ≡ true)
 and_both true b h = (refl, h)
@@ -29,14 +35,17 @@ below (suc k) test h i low = here (cases_lt i k) (below k test (and_both (test k
   where
     here : (i < k) ⊎ (k ≤ i) → (i < k → test i ≡ true) → test i ≡ true
     here (inl less) before = before less
-    here (inr last) before = subst (λ j. test j ≡ true) (sym (le_antisymm (le_of_suc-le-suc low) last)) (and_both (test k) (all_below k test) h).0
+    here (inr last) before =
+        subst (λ j. test j ≡ true) (sym (le_antisymm (le_of_suc-le-suc low) last)) (and_both (test k) (all_below k test) h).0
 
 pub shape_from : (rows cols : ℕ) (cross : List (ℕ × ℕ)) → is_shape rows cols cross ≡ true → IsShape rows cols cross
 shape_from rows cols cross h =
-    let (a, p) = and_both (nat_lt 0 rows) (nat_lt 0 cols && (is_rising cross && (list_all (is_within rows cols) cross && (all_below rows (has_row cross) && all_below cols (has_column cross))))) h in
-    let (b, q) = and_both (nat_lt 0 cols) (is_rising cross && (list_all (is_within rows cols) cross && (all_below rows (has_row cross) && all_below cols (has_column cross)))) p in
-    let (c, r) = and_both (is_rising cross) (list_all (is_within rows cols) cross && (all_below rows (has_row cross) && all_below cols (has_column cross))) q in
-    let (d, s) = and_both (list_all (is_within rows cols) cross) (all_below rows (has_row cross) && all_below cols (has_column cross)) r in
+    let inside : Bool = list_all (is_within rows cols) cross in
+    let lines : Bool = has_lines rows cols cross in
+    let (a, p) = and_both (nat_lt 0 rows) (nat_lt 0 cols && is_full rows cols cross) h in
+    let (b, q) = and_both (nat_lt 0 cols) (is_full rows cols cross) p in
+    let (c, r) = and_both (is_rising cross) (inside && lines) q in
+    let (d, s) = and_both inside lines r in
     let (e, f) = and_both (all_below rows (has_row cross)) (all_below cols (has_column cross)) s in record {
       some_row = ltb-true 0 rows a;
       some_column = ltb-true 0 cols b;

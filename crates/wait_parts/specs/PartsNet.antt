@@ -18,17 +18,19 @@ is_cut s = not (is_connected s) || nat_eq (length s.cross) 1
 abbrev pub ports_of : Shape → ℕ
 ports_of s = s.rows + s.cols + length s.cross
 
--- The component of a part: of the wires of the whole it has those of its rows, those of its columns, and those of its crossings.
+-- The component of a part: of the wires of the whole it has those of its rows, those of its columns, and those of its
+-- crossings.
 abbrev pub part_node : Shape → ShapePart → Node
 part_node s p = record {
   spec = Basic (part_kind (length p.rows) (length p.columns) p.cross);
   ends = (p.rows ++ map (λ j. s.rows + j) p.columns) ++ map (λ x. s.rows + s.cols + x) p.places;
 }
 
--- The environment is at the wires from 0 on, in the order of its ports, and each part at its own. The parts stand in the order
--- of their least rows.
+-- The environment is at the wires from 0 on, in the order of its ports, and each part at its own. The parts stand in
+-- the order of their least rows.
 abbrev pub parts_circuit : Shape → Circuit
 parts_circuit s = record {
-  nodes = record { spec = Basic (Dw s); ends = range_with_len 0 (ports_of s) } ∷ map (part_node s) (parts_of s.rows s.cols s.cross);
+  nodes = record { spec = Basic (Dw s); ends = range_with_len 0 (ports_of s) }
+      ∷ map (part_node s) (parts_of s.rows s.cols s.cross);
   wires = ports_of s;
 }
