@@ -57,7 +57,8 @@ shape_from rows cols cross h =
 
 -- the DW of the shape that these are; what is no shape has none, and a WIRE stands for it
 abbrev pub dw_by : (rows cols : ℕ) (cross : List (ℕ × ℕ)) (b : Bool) → is_shape rows cols cross ≡ b → Kind
-dw_by rows cols cross true e = kind.Dw (record { rows = rows; cols = cols; cross = cross; whole = shape_from rows cols cross e })
+dw_by rows cols cross true e =
+    kind.Dw (record { rows = rows; cols = cols; cross = cross; whole = shape_from rows cols cross e })
 dw_by rows cols cross false e = kind.Wire
 
 abbrev pub dw_of : ℕ → ℕ → List (ℕ × ℕ) → Kind

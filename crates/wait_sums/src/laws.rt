@@ -9,7 +9,8 @@ ghost use Rattle.wait_sums.specs.WaitSums.{IsConnected, IsWithin, own_sum, part_
 /// The sum of a DW is that of its parts, each by itself.
 pub fn parts_law()
     ensures { (rows cols : ℕ) (cross : List (ℕ × ℕ)) (s : Sort) → IsWithin rows cols cross
-        → wait_sum rows cols cross s ≡ sum_over (λ i. part_alone rows cols (part_at rows cross i) s) (part_names rows cross) }
+        → wait_sum rows cols cross s
+        ≡ sum_over (λ i. part_alone rows cols (part_at rows cross i) s) (part_names rows cross) }
 {}
 
 /// Lines without a crossing do not count.
@@ -26,8 +27,8 @@ pub fn connected_law()
 
 /// The sum of a connected DW of at most two rows and more than two columns is that of its layer by columns.
 pub fn columns_law()
-    ensures { (rows cols : ℕ) (cross : List (ℕ × ℕ)) (s : Sort) → IsShape rows cols cross → IsConnected rows cross → rows ≤ 2 → 2 < cols
-        → wait_sum rows cols cross s ≡ layer_sum wait_sum cols rows (exchanged cols cross) s }
+    ensures { (rows cols : ℕ) (cross : List (ℕ × ℕ)) (s : Sort) → IsShape rows cols cross → IsConnected rows cross
+        → rows ≤ 2 → 2 < cols → wait_sum rows cols cross s ≡ layer_sum wait_sum cols rows (exchanged cols cross) s }
 {}
 
 /// A connected DW of at most two rows and two columns, and of more than one crossing, stands for itself.

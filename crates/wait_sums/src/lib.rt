@@ -2,5 +2,7 @@
 #![tactic(auto)]
 
 mod laws;
+#[cfg(test)]
+mod tests;
 
 pub use laws::{columns_law, connected_law, crossings_law, parts_law, shape_law, small_law};
