@@ -1,0 +1,3 @@
+pub mod PartKind
+pub mod PartsNet
+pub mod Mirror

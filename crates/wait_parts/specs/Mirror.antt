@@ -1,0 +1,2 @@
+-- What the code keeps, beside what is meant.
+pub mod Known

@@ -1,0 +1,4 @@
+pub mod WaitLayers
+pub mod Renamed
+pub mod ConnectedParts
+pub mod OwnShape
