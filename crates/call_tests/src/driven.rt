@@ -19,10 +19,7 @@ fn draws_schedules(rt: HostRuntime) -> Result<(), Fail> {
     let rows = [
         ("drive N 7 5", "give a\npass 0\nfire 1 1\npass 1\ngive a\n"),
         ("drive N 0 3", "give a\npass 0\nfire 1 1\n"),
-        (
-            "drive N 18446744073709551615 2",
-            "give a\npass 0\n",
-        ),
+        ("drive N 18446744073709551615 2", "give a\npass 0\n"),
         ("drive N 1 0", ""),
     ];
     for (words, out) in rows {
@@ -62,7 +59,12 @@ fn draws_nothing_else(rt: HostRuntime) -> Result<(), Fail> {
             "limit L8: found 262145, allowed 262144\n",
             6,
         ),
-        ("drive M 7 262145", WIRE, "limit L8: found 262145, allowed 262144\n", 6),
+        (
+            "drive M 7 262145",
+            WIRE,
+            "limit L8: found 262145, allowed 262144\n",
+            6,
+        ),
         ("drive M 7 5", WIRE, "read fault 1\n", 3),
         (
             "drive N 1 1",
@@ -133,7 +135,10 @@ fn arbiter(alloc: Global, clients: u32) -> Result<String, Fail> {
 fn shelf_with(alloc: Global, netlist: &MemSink, schedule: &[u8]) -> Result<MemShelf, Fail> {
     let mut files = Vec::new(alloc);
     for (name, content) in [("N", netlist.bytes()), ("S", schedule)] {
-        files.push((String::from_str(alloc, name)?, Vec::from_slice(alloc, content)?))?;
+        files.push((
+            String::from_str(alloc, name)?,
+            Vec::from_slice(alloc, content)?,
+        ))?;
     }
     Ok(MemShelf::new(files, Vec::new(alloc)))
 }
@@ -143,7 +148,12 @@ fn shelf_with(alloc: Global, netlist: &MemSink, schedule: &[u8]) -> Result<MemSh
 fn replays_what_it_drew(rt: HostRuntime) -> Result<(), Fail> {
     let alloc = rt.alloc();
     let text = arbiter(alloc, 64)?;
-    let netlist = call(alloc, "compile wide F", Some(text.as_str()), Vec::new(alloc))?;
+    let netlist = call(
+        alloc,
+        "compile wide F",
+        Some(text.as_str()),
+        Vec::new(alloc),
+    )?;
     assert_eq!(rt; netlist.outcome, Outcome::Done);
     let shelf = shelf_with(alloc, &netlist.out, b"")?;
     let drawn = call_on(alloc, "drive N 1 100000", shelf, Vec::new(alloc))?;
