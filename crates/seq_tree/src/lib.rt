@@ -1,0 +1,9 @@
+//! SEQs of many requests, in layers of smaller ones: one layer has a SEQ of two between two groups of requests, and in each
+//! group of two requests and more a SEQ that chooses one of them.
+#![tactic(auto)]
+
+mod laws;
+mod layers;
+
+pub use laws::sequencer_law;
+pub use layers::split;
