@@ -1,1 +1,4 @@
 pub mod ColumnShape
+pub mod GroupNumbers
+pub mod LayerSums
+pub mod SequencerSplits

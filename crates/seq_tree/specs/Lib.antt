@@ -1,1 +1,2 @@
 pub mod SequencerLayer
+pub mod Mirror

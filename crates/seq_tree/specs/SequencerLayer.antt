@@ -114,7 +114,7 @@ base h r (suc j) = h + r + 1 + (h + r) + (5 * h + 4)
 abbrev pub number_of : ℕ → ℕ → Wire → ℕ
 number_of h r (Request j i) = before h j + i
 number_of h r Token = h + r
-number_of h r (Grant j i) = h + r + 1 + (before h j + i)
+number_of h r (Grant j i) = h + r + 1 + before h j + i
 number_of h r (Chosen j i) = base h r j + i
 number_of h r (Ask j i) = base h r j + size h r j + i
 number_of h r (Row j i) = base h r j + 2 * size h r j + i

@@ -2,6 +2,8 @@
 //! group of two requests and more a SEQ that chooses one of them.
 #![tactic(auto)]
 
+mod columns;
+mod groups;
 mod laws;
 mod layers;
 
