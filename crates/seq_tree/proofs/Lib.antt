@@ -1,4 +1,3 @@
-pub mod ColumnShape
 pub mod GroupNumbers
 pub mod LayerSums
 pub mod SequencerSplits

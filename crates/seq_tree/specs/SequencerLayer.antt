@@ -12,7 +12,7 @@ use Rattle.net_core.specs.declared.spec.NodeSpec.TheVariants.{Kind as Basic}
 use Rattle.net_core.specs.Wiring.{Circuit}
 use Rattle.net_laws.specs.Charts.{Chart, charted}
 use Rattle.two_way.specs.TwoWay.{at_most_two}
-use Rattle.seq_tree.proofs.ColumnShape.{is_column}
+use Rattle.seq_tree.specs.ColumnShape.{is_column}
 
 -- Groups are numbered from 0, and so are the requests of a group.
 pub data Wire : Type 0 where

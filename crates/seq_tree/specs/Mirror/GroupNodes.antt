@@ -31,7 +31,7 @@ in_and_out many inputs one outputs = range_with_len inputs many ++ one ∷ range
 
 -- so many FORKs of two, side by side
 abbrev pub fork_at : ℕ → ℕ → ℕ → ℕ → Node
-fork_at taken first second i = component_node (kind.Fork 2) (taken + i ∷ first + i ∷ second + i ∷ [])
+fork_at taken first second i = component_node (kind.Fork 2) ((taken + i) ∷ (first + i) ∷ (second + i) ∷ [])
 
 abbrev pub fork_nodes : ℕ → ℕ → ℕ → ℕ → List Node
 fork_nodes many taken first second = map (fork_at taken first second) (range_with_len 0 many)
@@ -43,7 +43,7 @@ single_nodes g =
     ∷ component_node (kind.Merge g.size) (into_one g.size (g.base + g.size) (g.base + 5 * g.size))
     ∷ component_node (column_wait g.size) (in_and_out g.size (g.base + 2 * g.size) (g.base + 5 * g.size + 1) (g.base + 3 * g.size))
     ∷ component_node (kind.Merge g.size) (into_one g.size (g.base + 4 * g.size) (g.base + 5 * g.size + 2))
-    ∷ component_node kind.Iwire (g.base + 5 * g.size + 2 ∷ g.base + 5 * g.size + 3 ∷ [])
+    ∷ component_node kind.Iwire ((g.base + 5 * g.size + 2) ∷ (g.base + 5 * g.size + 3) ∷ [])
     ∷ []
 
 abbrev pub group_nodes : Group → List Node
