@@ -1,13 +1,15 @@
 -- The components of a layer by their names are those that the code makes by the numbers of their wires.
-use Rattle.std.proofs.Common.{◌≡◌, ℕ, zero, suc, ◌+◌, ◌*◌, ◌-◌, ◌/◌, ◌<◌, ◌≤◌, ◌^◌, List, [], ◌∷◌, ◌++◌, map, refl, sym, ap, ◌∙◌, arith, append_assoc}
+use Rattle.std.proofs.Common.{◌≡◌, ℕ, zero, suc, ◌+◌, ◌*◌, ◌-◌, ◌/◌, ◌<◌, ◌≤◌, ◌^◌, List, [], ◌∷◌, ◌++◌, map, refl, sym, ap, ◌∙◌, arith, append_assoc, length, length-append}
 use Rattle.std.specs.List.{range_with_len}
 use Rattle.std.proofs.lemmas.List.{map-append}
+use Rattle.std.proofs.lemmas.List.FromFn.{length-map-range_with_len}
 use Rattle.basic_kinds.specs.declared.kind.Kind.TheVariants as kind
 use Rattle.basic_kinds.specs.ShapeParts.{half}
 use Rattle.net_core.specs.Wiring.{Node, Circuit}
 use Rattle.net_laws.specs.Charts.{Chart, node_of, charted}
 use Rattle.net_laws.proofs.Rows.{number_row, range_both}
 use Rattle.seq_tree.specs.SequencerLayer.{Wire, Request, Grant, Token, Chosen, Ask, Row, Won, Back, Call, Give, Return, Free, Name, Env, Outer, Inner, Calls, Wait, Returns, Gate, Spread, Share, by_size, row, size, before, column_wait, ports_at, base, number_of, group, components, sequencer_chart, sequencer_circuit}
+use Rattle.seq_tree.specs.declared.groups.Group.{Group}
 use Rattle.seq_tree.specs.Mirror.GroupNodes.{IsLow, group_of, component_node, into_one, in_and_out, fork_at, fork_nodes, single_nodes, group_nodes, call_wire, give_wire, inside, outer_nodes}
 
 -- ---- halves
@@ -148,3 +150,39 @@ same_circuit k items wires nodes many =
     let all : items ≡ (sequencer_circuit k).nodes =
     nodes ∙ ap (λ m. (outer_nodes m (group_of h r 0) (group_of h r 1) ++ group_nodes (group_of h r 0)) ++ group_nodes (group_of h r 1)) (sym (halves_are k)) ∙ nodes_are h r in
     λ i. record { nodes = all i; wires = many i }
+
+-- ---- how many components there are
+
+forks_long : (n taken first second : ℕ) → length (fork_nodes n taken first second) ≡ n
+forks_long n taken first second = length-map-range_with_len (fork_at taken first second) 0 n
+
+group_long : (g : Group) → length (group_nodes g) ≤ 2 * g.size + 5
+group_long g = by g.size (omega (
+  arith,
+  length-append (fork_nodes g.size g.base (g.base + g.size) (g.base + 2 * g.size)) (fork_nodes g.size (g.base + 3 * g.size) g.grant (g.base + 4 * g.size)),
+  forks_long g.size g.base (g.base + g.size) (g.base + 2 * g.size),
+  forks_long g.size (g.base + 3 * g.size) g.grant (g.base + 4 * g.size),
+))
+  where
+    all : List Node
+    all = single_nodes g ++ (fork_nodes g.size g.base (g.base + g.size) (g.base + 2 * g.size) ++ fork_nodes g.size (g.base + 3 * g.size) g.grant (g.base + 4 * g.size))
+
+    by : (n : ℕ) → length all ≤ 2 * g.size + 5 → length (by_size n [] all) ≤ 2 * g.size + 5
+    by zero few = omega arith
+    by (suc zero) few = omega arith
+    by (suc (suc n)) few = few
+
+pub nodes_few : (k : ℕ) → length (sequencer_circuit k).nodes ≤ 2 * k + 12
+nodes_few k =
+    let h : ℕ = half k in
+    let r : ℕ = k - half k in
+    let outer : List Node = outer_nodes (h + r) (group_of h r 0) (group_of h r 1) in
+    omega (
+      arith,
+      ap (λ (xs : List Node). length xs) (nodes_are h r),
+      length-append (outer ++ group_nodes (group_of h r 0)) (group_nodes (group_of h r 1)),
+      length-append outer (group_nodes (group_of h r 0)),
+      group_long (group_of h r 0),
+      group_long (group_of h r 1),
+      halves_are k,
+    )

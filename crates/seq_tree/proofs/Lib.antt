@@ -1,3 +1,4 @@
+pub mod ColumnWaits
 pub mod GroupNumbers
 pub mod LayerSums
 pub mod SequencerSplits
