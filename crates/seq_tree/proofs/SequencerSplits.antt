@@ -62,8 +62,22 @@ module _ (h r k : ℕ) (whole : h + r ≡ k) (wide : 2 < k) (first : 0 < h) (res
       let n : ℕ = size h r j in
       let less : n < k = size_less j in
       all_by_size Lighter n (Inner j ∷ Calls j ∷ Wait j ∷ Returns j ∷ Gate j ∷ (map (Spread j) (range_with_len 0 n) ++ map (Share j) (range_with_len 0 n)))
-      (λ more. (lighter_seq n less, (lighter_merge n less, (lighter_wait n k wide less, (lighter_merge n less, (lighter_none,
-      all_both Lighter (map (Spread j) (range_with_len 0 n)) (map (Share j) (range_with_len 0 n)) (row_all Lighter (Spread j) n (λ i low. lighter_none)) (row_all Lighter (Share j) n (λ i low. lighter_none))))))))
+      (λ more. (
+        lighter_seq n less,
+        (
+          lighter_merge n less,
+          (
+            lighter_wait n k wide less,
+            (
+              lighter_merge n less,
+              (
+                lighter_none,
+                all_both Lighter (map (Spread j) (range_with_len 0 n)) (map (Share j) (range_with_len 0 n)) (row_all Lighter (Spread j) n (λ i low. lighter_none)) (row_all Lighter (Share j) n (λ i low. lighter_none)),
+              ),
+            ),
+          ),
+        ),
+      ))
 
   lighter_parts : AllByRecursion (λ x. IsLighter (Seq k) x.spec) (map (node_of (sequencer_chart h r)) (components h r))
   lighter_parts =

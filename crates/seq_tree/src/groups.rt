@@ -115,7 +115,10 @@ impl Group {
             return Ok(Vec::new(alloc));
         }
         let Group {
-            grant, size, base, ..
+            grant,
+            size,
+            base,
+            ..
         } = self;
         let mut nodes = single_nodes(alloc, self)?;
         let mut chosen = forks(alloc, size, base, base + size, base + 2 * size)?;
@@ -154,10 +157,6 @@ impl Group {
         requires { IsLow self }
         ensures { result ≡ inside self }
     {
-        if self.size < 2 {
-            0
-        } else {
-            5 * self.size + 4
-        }
+        if self.size < 2 { 0 } else { 5 * self.size + 4 }
     }
 }

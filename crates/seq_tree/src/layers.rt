@@ -50,8 +50,17 @@ fn outer_nodes(
     ensures { IfOk result (λ it. it.items ≡ outer_nodes requests first rest) }
 {
     let outside = numbers(alloc, 0, 2 * requests + 1)?;
-    let ends = vec![in alloc; first.call(), rest.call(), requests, first.give(), rest.give()]?;
-    Ok(vec![in alloc; component(Kind::Seq(requests), outside), component(Kind::Seq(2), ends)]?)
+    let ends = vec![in alloc;
+        first.call(),
+        rest.call(),
+        requests,
+        first.give(),
+        rest.give(),
+    ]?;
+    Ok(vec![in alloc;
+        component(Kind::Seq(requests), outside),
+        component(Kind::Seq(2), ends),
+    ]?)
 }
 
 /// One layer of a SEQ of more than two requests.

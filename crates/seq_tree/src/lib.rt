@@ -6,6 +6,8 @@ mod columns;
 mod groups;
 mod laws;
 mod layers;
+#[cfg(test)]
+mod tests;
 
 pub use laws::sequencer_law;
 pub use layers::split;
