@@ -1,7 +1,7 @@
--- One layer of the split of a SEQ of more than two requests, by names. The requests stand in two groups, the first half and the
--- rest. An outer SEQ of two gives the token to a group. In a group of two requests and more an inner SEQ chooses one; the outer SEQ
--- is asked for the group, and a DW joins its answer with the request that was chosen. When this has its grant, the inner SEQ may
--- choose again. A group of one request has no component: its request and its grant are those of the outer SEQ.
+-- One layer of the split of a SEQ of more than two requests, by names. The requests stand in two groups, the first half and
+-- the rest. An outer SEQ of two gives the token to a group. In a group of two requests and more an inner SEQ chooses one; the
+-- outer SEQ is asked for the group, and a DW joins its answer with the request that was chosen. When this has its grant, the
+-- inner SEQ may choose again. A group of one request has no component: its request and its grant are those of the outer SEQ.
 use Rattle.std.specs.Prelude.{◌≡◌, ℕ, zero, suc, ◌+◌, ◌*◌, ◌-◌, if◌then◌else◌, List, [], ◌∷◌, ◌++◌, map, Option, None, Some, ⊤}
 use Rattle.std.specs.List.{range_with_len}
 use Rattle.basic_kinds.specs.declared.kind.Kind.{Kind}
@@ -105,8 +105,8 @@ ports_at h r (Gate j) = Return j ∷ Free j ∷ []
 ports_at h r (Spread j i) = Chosen j i ∷ Ask j i ∷ Row j i ∷ []
 ports_at h r (Share j i) = Won j i ∷ Grant j i ∷ Back j i ∷ []
 
--- The environment is at the wires from 0 on, in the order of its ports. Behind them stand the wires inside the first group, which
--- has two requests and more, and then those inside the second.
+-- The environment is at the wires from 0 on, in the order of its ports. Behind them stand the wires inside the first group,
+-- which has two requests and more, and then those inside the second.
 abbrev pub base : ℕ → ℕ → ℕ → ℕ
 base h r zero = h + r + 1 + (h + r)
 base h r (suc j) = h + r + 1 + (h + r) + (5 * h + 4)
@@ -127,8 +127,8 @@ number_of h r (Free j) = base h r j + 5 * size h r j + 3
 
 -- the components of a group of so many requests
 abbrev pub group : ℕ → ℕ → List Name
-group j n = by_size n []
-    (Inner j ∷ Calls j ∷ Wait j ∷ Returns j ∷ Gate j ∷ (map (Spread j) (range_with_len 0 n) ++ map (Share j) (range_with_len 0 n)))
+group j n = by_size n [] (Inner j ∷ Calls j ∷ Wait j ∷ Returns j ∷ Gate j
+    ∷ (map (Spread j) (range_with_len 0 n) ++ map (Share j) (range_with_len 0 n)))
 
 abbrev pub components : ℕ → ℕ → List Name
 components h r = Outer ∷ (group 0 h ++ group 1 r)

@@ -77,7 +77,8 @@ fn forks(
     Ok(nodes)
 }
 
-/// The components that a group has once: its SEQ, the MERGE of what it asks, its DW, the MERGE of what goes back and its IWIRE.
+/// The components that a group has once: its SEQ, the MERGE of what it asks, its DW, the MERGE of what goes back, and its
+/// IWIRE.
 fn single_nodes(alloc: Global, group: Group) -> Result<Vec<Node>, AllocError>
     requires some { 0 < group.size }
     requires low { IsLow group }
