@@ -1,4 +1,6 @@
 pub mod ColumnWaits
 pub mod GroupNumbers
 pub mod LayerSums
+pub mod SequencerSound
 pub mod SequencerSplits
+pub mod SequencerWires

@@ -1,0 +1,5 @@
+use Rattle.seq_tree.proofs.SequencerSound.{sound}
+use Rattle.seq_tree.proofs.laws.sequencer_law.Goals as goal
+
+pub returns : goal.returns
+returns c = let a = sound 0 (λ k. 0) 0 in ?
