@@ -1,6 +1,7 @@
 pub mod ColumnWaits
 pub mod GroupNumbers
 pub mod LayerSums
+pub mod SequencerExact
 pub mod SequencerSound
 pub mod SequencerSplits
 pub mod SequencerWires
