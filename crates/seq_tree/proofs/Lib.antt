@@ -1,5 +1,6 @@
 pub mod ColumnWaits
 pub mod GroupNumbers
+pub mod KindLists
 pub mod LayerSums
 pub mod SequencerExact
 pub mod SequencerSound
