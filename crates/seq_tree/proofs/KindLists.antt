@@ -218,10 +218,10 @@ module _ {W : Type 0} (b : W) (e : W → ℕ) (w : W) where
 
 -- ---- a DW of one column
 
-cross_at : (a n x : ℕ) → x < n → slice_index_or (map (λ i. (i, 0)) (range_with_len a n)) x (0, 0) ≡ (a + x, 0)
+cross_at : (a n x : ℕ) → x < n → ◌≡◌ {A = ℕ × ℕ} (slice_index_or (map (λ (i : ℕ). (i, 0)) (range_with_len a n)) x (0, 0)) (a + x, 0)
 cross_at a zero x low = absurd (omega arith)
-cross_at a (suc n) zero low = ap (λ i. (i, 0)) (let z : a ≡ a + 0 = omega arith in z)
-cross_at a (suc n) (suc x) low = cross_at (a + 1) n x (omega arith) ∙ ap (λ i. (i, 0)) (let z : a + 1 + x ≡ a + suc x = omega arith in z)
+cross_at a (suc n) zero low = ap {B = ℕ × ℕ} (λ (i : ℕ). (i, 0)) (let z : a ≡ a + 0 = omega arith in z)
+cross_at a (suc n) (suc x) low = cross_at (a + 1) n x (omega arith) ∙ ap {B = ℕ × ℕ} (λ (i : ℕ). (i, 0)) (let z : a + 1 + x ≡ a + suc x = omega arith in z)
 
 abbrev column : ℕ → Shape
 column m = record { rows = suc m; cols = 1; cross = one_column (suc m); whole = is_column m }
