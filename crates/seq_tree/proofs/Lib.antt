@@ -3,6 +3,7 @@ pub mod GroupNumbers
 pub mod KindLists
 pub mod LayerSums
 pub mod SequencerExact
+pub mod SequencerPorts
 pub mod SequencerSound
 pub mod SequencerSplits
 pub mod SequencerWires
