@@ -45,7 +45,7 @@ of_by_size f (suc zero) a b = refl
 of_by_size f (suc (suc n)) a b = refl
 
 -- so many numbers, the next one, and as many as m after it
-range_on : (k m : ℕ) → range_with_len 0 k ++ k ∷ range_with_len (k + 1) m ≡ range_with_len 0 (k + 1 + m)
+pub range_on : (k m : ℕ) → range_with_len 0 k ++ k ∷ range_with_len (k + 1) m ≡ range_with_len 0 (k + 1 + m)
 range_on k m =
     let e : k ≡ 0 + k = omega arith in
     let f : k + suc m ≡ k + 1 + m = omega arith in
@@ -102,7 +102,7 @@ module _ (h r : ℕ) where
       map-append number (row v h) (row w r) ∙ ap (λ ns. ns ++ map number (row w r)) (number_row number v a h e)
       ∙ ap (λ ns. range_with_len a h ++ ns) (number_row number w (a + h) r f) ∙ range_both a h r
 
-  outside_is : map number (ports_at h r Env) ≡ range_with_len 0 (h + r + 1 + (h + r))
+  pub outside_is : map number (ports_at h r Env) ≡ range_with_len 0 (h + r + 1 + (h + r))
   outside_is =
       let requests : map number (row (Request 0) h ++ row (Request 1) r) ≡ range_with_len 0 (h + r) = two_rows 0 (Request 0) (Request 1) (λ i low. refl) (λ i low. omega arith) in
       let grants : map number (row (Grant 0) h ++ row (Grant 1) r) ≡ range_with_len (h + r + 1) (h + r) =
@@ -110,12 +110,12 @@ module _ (h r : ℕ) where
       map-append number (row (Request 0) h ++ row (Request 1) r) (Token ∷ (row (Grant 0) h ++ row (Grant 1) r))
       ∙ (λ i. requests i ++ (h + r) ∷ grants i) ∙ range_on (h + r) (h + r)
 
-  call_is : (j : ℕ) → number (by_size (size h r j) (Request j 0) (Call j)) ≡ call_wire (group_of h r j)
+  pub call_is : (j : ℕ) → number (by_size (size h r j) (Request j 0) (Call j)) ≡ call_wire (group_of h r j)
   call_is j =
       let first : before h j + 0 ≡ before h j = omega arith in
       of_by_size number (size h r j) (Request j 0) (Call j) ∙ ap (λ m. by_size (size h r j) m (base h r j + 5 * size h r j)) first
 
-  give_is : (j : ℕ) → number (by_size (size h r j) (Grant j 0) (Give j)) ≡ give_wire (group_of h r j)
+  pub give_is : (j : ℕ) → number (by_size (size h r j) (Grant j 0) (Give j)) ≡ give_wire (group_of h r j)
   give_is j =
       let first : h + r + 1 + before h j + 0 ≡ h + r + 1 + before h j = omega arith in
       of_by_size number (size h r j) (Grant j 0) (Give j) ∙ ap (λ m. by_size (size h r j) m (base h r j + 5 * size h r j + 1)) first

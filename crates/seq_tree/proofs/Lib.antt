@@ -2,6 +2,7 @@ pub mod ColumnWaits
 pub mod GroupNumbers
 pub mod KindLists
 pub mod LayerSums
+pub mod SequencerChart
 pub mod SequencerExact
 pub mod SequencerPorts
 pub mod SequencerSound

@@ -161,20 +161,20 @@ module _ (K : ℕ) (size : ℕ → ℕ) (L : ℕ) where
 
   -- ---- members
 
-  env_among : (k i : ℕ) → k < K → i < size k → Among (asked k i) env_pairs
+  pub env_among : (k i : ℕ) → k < K → i < size k → Among (asked k i) env_pairs
   env_among k i near inside =
       among_left (asked k i) (each (λ q. row (asked q) (size q)) K) lone_pairs (each_among (λ q. row (asked q) (size q)) K k (asked k i) near (row_among (asked k) (size k) i inside))
 
-  env_lone : (j : ℕ) → j < L → Among (lone j) env_pairs
+  pub env_lone : (j : ℕ) → j < L → Among (lone j) env_pairs
   env_lone j low = among_right (lone j) (each (λ q. row (asked q) (size q)) K) lone_pairs (row_among lone L j low)
 
-  outer_among : (k : ℕ) → k < K → Among (called k) outer_pairs
+  pub outer_among : (k : ℕ) → k < K → Among (called k) outer_pairs
   outer_among k near = among_left (called k) (row called K) lone_pairs (row_among called K k near)
 
-  outer_lone : (j : ℕ) → j < L → Among (lone j) outer_pairs
+  pub outer_lone : (j : ℕ) → j < L → Among (lone j) outer_pairs
   outer_lone j low = among_right (lone j) (row called K) lone_pairs (row_among lone L j low)
 
-  inner_among : (k i : ℕ) → i < size k → Among (picked k i) (inner_pairs k)
+  pub inner_among : (k i : ℕ) → i < size k → Among (picked k i) (inner_pairs k)
   inner_among k i inside = row_among (picked k) (size k) i inside
 
   pub env_all : (Q : Pair → Type 0) → ((k i : ℕ) → k < K → i < size k → Q (asked k i)) → ((j : ℕ) → j < L → Q (lone j)) → AllByRecursion Q env_pairs
