@@ -41,7 +41,7 @@ heads : {A : Type 0} (x y : A) (xs ys : List A) → x ∷ xs ≡ y ∷ ys → (x
 heads x y xs ys e = (cc, cc)
 
 -- what is numbered one after the other stands once
-distinct_numbers : {A : Type 0} (f : A → ℕ) (xs : List A) (a n : ℕ) → map f xs ≡ range_with_len a n → Distinct xs
+pub distinct_numbers : {A : Type 0} (f : A → ℕ) (xs : List A) (a n : ℕ) → map f xs ≡ range_with_len a n → Distinct xs
 distinct_numbers f [] a n e = tt
 distinct_numbers f (x ∷ xs) a zero e = absurd (cc)
 distinct_numbers f (x ∷ xs) a (suc n) e =
@@ -54,11 +54,11 @@ distinct_numbers f (x ∷ xs) a (suc n) e =
 rising : {A : Type 0} (rank : A → ℕ) (x : A) (xs : List A) → AllByRecursion (λ y. rank x < rank y) xs → Among x xs → ⊥
 rising rank x xs all a = let low : rank x < rank x = all_among (λ y. rank x < rank y) xs all x a in omega (arith, low)
 
-apart : {A : Type 0} (rank : A → ℕ) (r s : ℕ) (xs ys : List A) → (r ≡ s → ⊥) → AllByRecursion (λ y. rank y ≡ r) xs → AllByRecursion (λ y. rank y ≡ s) ys
+pub apart : {A : Type 0} (rank : A → ℕ) (r s : ℕ) (xs ys : List A) → (r ≡ s → ⊥) → AllByRecursion (λ y. rank y ≡ r) xs → AllByRecursion (λ y. rank y ≡ s) ys
     → (x : A) → Among x xs → Among x ys → ⊥
 apart rank r s xs ys other a b x i j = other (sym (all_among (λ y. rank y ≡ r) xs a x i) ∙ all_among (λ y. rank y ≡ s) ys b x j)
 
-abbrev wire_rank : Wire → ℕ
+abbrev pub wire_rank : Wire → ℕ
 wire_rank (Request k i) = 0
 wire_rank (Chosen k i) = 1
 wire_rank (Ask k i) = 2
@@ -131,13 +131,13 @@ module _ (K : ℕ) (size : ℕ → ℕ) (L : ℕ) where
       (row_all Q (Share k) (size k) (λ i inside. h (Share k i) (near, inside) (λ e. cc)))))))))
   )
 
-  nodes_all : (Q : Node → Type 0) → ((n : Node) → Good n → Q n) → AllByRecursion Q (Env ∷ parts)
+  pub nodes_all : (Q : Node → Type 0) → ((n : Node) → Good n → Q n) → AllByRecursion Q (Env ∷ parts)
   nodes_all Q h = (h Env tt, parts_all Q (λ n good other. h n good))
 
   in_group : (k : ℕ) (n : Node) → k < K → Among n (group k) → Among n (Env ∷ parts)
   in_group k n near a = inr (inr (each_among group K k n near a))
 
-  node_among : (n : Node) → Good n → Among n (Env ∷ parts)
+  pub node_among : (n : Node) → Good n → Among n (Env ∷ parts)
   node_among Env good = inl refl
   node_among Outer good = inr (inl refl)
   node_among (Inner k) good = in_group k (Inner k) good (inl refl)
@@ -184,7 +184,7 @@ module _ (K : ℕ) (size : ℕ → ℕ) (L : ℕ) where
   not_in : (n : Node) → home n < 2 → Among n (each group K) → ⊥
   not_in n low a = let (k, near, b) = among_each group K n a in omega (arith, low, group_home k n b)
 
-  nodes_once : Distinct (Env ∷ parts)
+  pub nodes_once : Distinct (Env ∷ parts)
   nodes_once = (
     no_env,
     (
@@ -197,7 +197,7 @@ module _ (K : ℕ) (size : ℕ → ℕ) (L : ℕ) where
       no_env (inl e) = cc
       no_env (inr a) = not_in Env (omega arith) a
 
-  good_driver : (w : Wire) → There w → Good (driver w)
+  pub good_driver : (w : Wire) → There w → Good (driver w)
   good_driver (Request k i) t = tt
   good_driver (Chosen k i) t = t.0
   good_driver (Ask k i) t = t
@@ -213,7 +213,7 @@ module _ (K : ℕ) (size : ℕ → ℕ) (L : ℕ) where
   good_driver (Own j) t = tt
   good_driver Token t = tt
 
-  good_receiver : (w : Wire) → There w → Good (receiver w)
+  pub good_receiver : (w : Wire) → There w → Good (receiver w)
   good_receiver (Request k i) t = t.0
   good_receiver (Chosen k i) t = t
   good_receiver (Ask k i) t = t.0
@@ -240,7 +240,7 @@ module _ (K : ℕ) (size : ℕ → ℕ) (L : ℕ) where
   second_in : (ps : List Pair) (front : List Wire) (p : Pair) → Among p ps → Among p.1 (front ++ seconds ps)
   second_in ps front p a = among_right p.1 front (seconds ps) (map_among (λ (q : Pair). q.1) p ps a)
 
-  port_out : (w : Wire) → There w → Among w (ports (driver w))
+  pub port_out : (w : Wire) → There w → Among w (ports (driver w))
   port_out (Request k i) t = first_in Env (at.env_pairs K size L) Token (outs Env) (asked k i) (at.env_among K size L k i t.0 t.1)
   port_out (Chosen k i) t = second_in (at.inner_pairs K size L k) (ins (Inner k)) (picked k i) (at.inner_among K size L k i t.1)
   port_out (Ask k i) t = inr (inl refl)
@@ -256,7 +256,7 @@ module _ (K : ℕ) (size : ℕ → ℕ) (L : ℕ) where
   port_out (Own j) t = second_in (at.outer_pairs K size L) (ins Outer) (lone j) (at.outer_lone K size L j t)
   port_out Token t = token_in (at.env_pairs K size L) Token (outs Env)
 
-  port_in : (w : Wire) → There w → Among w (ports (receiver w))
+  pub port_in : (w : Wire) → There w → Among w (ports (receiver w))
   port_in (Request k i) t = first_in (Inner k) (at.inner_pairs K size L k) (Free k) (outs (Inner k)) (picked k i) (at.inner_among K size L k i t.1)
   port_in (Chosen k i) t = inl refl
   port_in (Ask k i) t = among_left (Ask k i) (ins (Calls k)) (outs (Calls k)) (row_among (Ask k) (size k) i t.1)
@@ -298,11 +298,11 @@ module _ (K : ℕ) (size : ℕ → ℕ) (L : ℕ) where
   outs_there (Returns k) good = (good, tt)
   outs_there (Gate k) good = (good, tt)
 
-  ports_there : (n : Node) → Good n → AllByRecursion There (ports n)
+  pub ports_there : (n : Node) → Good n → AllByRecursion There (ports n)
   ports_there n good = all_both There (ins n) (outs n) (ins_there n good) (outs_there n good)
 
   -- the side of each port
-  ins_at : (n : Node) → (n ≡ Env → ⊥) → AllByRecursion (λ w. receiver w ≡ n) (ins n)
+  pub ins_at : (n : Node) → (n ≡ Env → ⊥) → AllByRecursion (λ w. receiver w ≡ n) (ins n)
   ins_at Env other = absurd (other refl)
   ins_at Outer other = tokened (λ w. receiver w ≡ Outer) (at.outer_pairs K size L) Token (at.outer_all K size L (λ (p : Pair). receiver p.0 ≡ Outer) (λ k near. refl) (λ j low. refl)) refl
   ins_at (Inner k) other = tokened (λ w. receiver w ≡ Inner k) (at.inner_pairs K size L k) (Free k) (at.inner_all K size L (λ (p : Pair). receiver p.0 ≡ Inner k) k (λ i inside. refl)) refl
@@ -313,7 +313,7 @@ module _ (K : ℕ) (size : ℕ → ℕ) (L : ℕ) where
   ins_at (Returns k) other = row_all (λ w. receiver w ≡ Returns k) (Back k) (size k) (λ i inside. refl)
   ins_at (Gate k) other = (refl, tt)
 
-  outs_at : (n : Node) → (n ≡ Env → ⊥) → AllByRecursion (λ w. driver w ≡ n) (outs n)
+  pub outs_at : (n : Node) → (n ≡ Env → ⊥) → AllByRecursion (λ w. driver w ≡ n) (outs n)
   outs_at Env other = absurd (other refl)
   outs_at Outer other = at.seconds_all K size L (λ w. driver w ≡ Outer) (at.outer_pairs K size L) (at.outer_all K size L (λ (p : Pair). driver p.1 ≡ Outer) (λ k near. refl) (λ j low. refl))
   outs_at (Inner k) other = at.seconds_all K size L (λ w. driver w ≡ Inner k) (at.inner_pairs K size L k) (at.inner_all K size L (λ (p : Pair). driver p.1 ≡ Inner k) k (λ i inside. refl))
@@ -324,10 +324,10 @@ module _ (K : ℕ) (size : ℕ → ℕ) (L : ℕ) where
   outs_at (Returns k) other = (refl, tt)
   outs_at (Gate k) other = (refl, tt)
 
-  env_ins : AllByRecursion (λ w. driver w ≡ Env) (ins Env)
+  pub env_ins : AllByRecursion (λ w. driver w ≡ Env) (ins Env)
   env_ins = tokened (λ w. driver w ≡ Env) (at.env_pairs K size L) Token (at.env_all K size L (λ (p : Pair). driver p.0 ≡ Env) (λ k i near inside. refl) (λ j low. refl)) refl
 
-  env_outs : AllByRecursion (λ w. receiver w ≡ Env) (outs Env)
+  pub env_outs : AllByRecursion (λ w. receiver w ≡ Env) (outs Env)
   env_outs = at.seconds_all K size L (λ w. receiver w ≡ Env) (at.env_pairs K size L) (at.env_all K size L (λ (p : Pair). receiver p.1 ≡ Env) (λ k i near inside. refl) (λ j low. refl))
 
   -- ---- how many ports there are
@@ -354,7 +354,7 @@ module _ (K : ℕ) (size : ℕ → ℕ) (L : ℕ) where
   column_wide (suc n) some = tt
 
   module _ (wide : (k : ℕ) → k < K → 2 ≤ size k) (two : K + L ≡ 2) (many : 2 ≤ total K size + L) (few : total K size + L + 1 + (total K size + L) < 2 ^ 28) where
-    some : (k : ℕ) → k < K → 0 < size k
+    pub some : (k : ℕ) → k < K → 0 < size k
     some k near = omega (arith, wide k near)
 
     ins_long : (n : Node) → Good n → length (ins n) ≡ inputs_of (at.kind_at K size L n)
@@ -379,13 +379,13 @@ module _ (K : ℕ) (size : ℕ → ℕ) (L : ℕ) where
     outs_long (Returns k) good = refl
     outs_long (Gate k) good = refl
 
-    ports_long : (n : Node) → Good n → length (ports n) ≡ inputs_of (at.kind_at K size L n) + outputs_of (at.kind_at K size L n)
+    pub ports_long : (n : Node) → Good n → length (ports n) ≡ inputs_of (at.kind_at K size L n) + outputs_of (at.kind_at K size L n)
     ports_long n good = length-append (ins n) (outs n) ∙ omega (arith, ins_long n good, outs_long n good)
 
     size_few : (k : ℕ) → k < K → size k ≤ total K size
     size_few k near = total_part K size k near
 
-    is_wide : (n : Node) → Good n → IsWide (at.kind_at K size L n)
+    pub is_wide : (n : Node) → Good n → IsWide (at.kind_at K size L n)
     is_wide Env good = many
     is_wide Outer good = omega (arith, two)
     is_wide (Inner k) good = wide k good
@@ -407,7 +407,7 @@ module _ (K : ℕ) (size : ℕ → ℕ) (L : ℕ) where
     is_few (Returns k) good = omega (arith, few, size_few k good)
     is_few (Gate k) good = omega arith
 
-    formed : (n : Node) → Good n → IsFormed (Basic (at.kind_at K size L n))
+    pub formed : (n : Node) → Good n → IsFormed (Basic (at.kind_at K size L n))
     formed n good = record { wide = is_wide n good; few = is_few n good }
 
     pub joined : (f g : Wire → Node) (n m : Node) → Good m → AllByRecursion (λ w. g w ≡ n) (ins m) → AllByRecursion (λ w. f w ≡ n) (outs m)
