@@ -4,6 +4,7 @@ pub mod KindLists
 pub mod LayerSums
 pub mod SequencerChart
 pub mod SequencerExact
+pub mod SequencerLaw
 pub mod SequencerNumbers
 pub mod SequencerPorts
 pub mod SequencerSound

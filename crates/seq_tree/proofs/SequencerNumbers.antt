@@ -94,7 +94,7 @@ module _ (K : ℕ) (size : ℕ → ℕ) (L : ℕ) where
       ∙ ap (λ ns. ns ++ map f (row lone L)) (number_each (λ k. row (asked k) (size k)) f b size K (λ k low. number_row f (asked k) (b + total k size) (size k) (λ i l. g k i)))
       ∙ ap (λ ns. range_with_len b (total K size) ++ ns) (number_row f lone (b + total K size) L (λ j l. h j)) ∙ range_both b (total K size) L
 
-  env_numbers : map number (ports Env) ≡ range_with_len 0 (whole + 1 + whole)
+  pub env_numbers : map number (ports Env) ≡ range_with_len 0 (whole + 1 + whole)
   env_numbers =
       let first : map number (firsts (at.env_pairs K size L)) ≡ range_with_len 0 whole =
       map_map number (λ (p : Pair). p.0) (at.env_pairs K size L) ∙ pair_numbers (λ (p : Pair). number p.0) 0 (λ k i. omega arith) (λ j. omega arith) in
