@@ -20,6 +20,7 @@ use Rattle.two_way.specs.Layers.{IsLighter, IsLayerOf, IsSplitOf}
 use Rattle.seq_tree.specs.SequencerLayer.{Name, Outer, Inner, Calls, Wait, Returns, Gate, Spread, Share, IsSequencer, by_size, size, column_wait, spec_at, base, group, components, sequencer_chart, sequencer_circuit, sequencer_layer}
 use Rattle.seq_tree.proofs.GroupNumbers.{half_range}
 use Rattle.seq_tree.proofs.LayerSums.{sums_same}
+use Rattle.seq_tree.proofs.SequencerLaw.{sequencer_right}
 
 -- ---- lighter components
 
@@ -93,25 +94,21 @@ is_layer k wide right = record {
 
 -- ---- all kinds
 
--- the layer of each SEQ of more than two requests is correct
-abbrev pub Right : Type 0
-Right = (k : ℕ) → 2 < k → IsWellFormed (Seq k) → Implements (sequencer_circuit k) (Basic (Seq k))
-
 split_by : (k : ℕ) (b : Bool) → nat_lt k 3 ≡ b → (2 < k → IsLayerOf (Seq k) (sequencer_circuit k)) → IsSplitOf (Seq k) (if b then None else Some (sequencer_circuit k))
 split_by k true e layer = record { none = ((λ z. e), (λ z. refl)); layer = tt }
 split_by k false e layer = record { none = ((λ z. absurd (cc)), (λ z. absurd (false≢true (sym e ∙ z)))); layer = layer (grind (arith, nat_tests)) }
 
-pub sequencer_splits : Right → (k : Kind) → IsSequencer k → IsWellFormed k → IsSplitOf k (sequencer_layer k)
-sequencer_splits right Wire is formed = absurd is
-sequencer_splits right Iwire is formed = absurd is
-sequencer_splits right Source is formed = absurd is
-sequencer_splits right Sink is formed = absurd is
-sequencer_splits right (Fork n) is formed = absurd is
-sequencer_splits right (C n) is formed = absurd is
-sequencer_splits right (Merge n) is formed = absurd is
-sequencer_splits right Toggle is formed = absurd is
-sequencer_splits right (Dw s) is formed = absurd is
-sequencer_splits right (Seq k) is formed = split_by k (nat_lt k 3) refl (λ wide. is_layer k wide (right k wide formed))
+pub sequencer_splits : (k : Kind) → IsSequencer k → IsWellFormed k → IsSplitOf k (sequencer_layer k)
+sequencer_splits Wire is formed = absurd is
+sequencer_splits Iwire is formed = absurd is
+sequencer_splits Source is formed = absurd is
+sequencer_splits Sink is formed = absurd is
+sequencer_splits (Fork n) is formed = absurd is
+sequencer_splits (C n) is formed = absurd is
+sequencer_splits (Merge n) is formed = absurd is
+sequencer_splits Toggle is formed = absurd is
+sequencer_splits (Dw s) is formed = absurd is
+sequencer_splits (Seq k) is formed = split_by k (nat_lt k 3) refl (λ wide. is_layer k wide (sequencer_right k wide formed))
 
 -- ---- the number of wires
 
@@ -143,9 +140,9 @@ sequencer_wires (Dw s) is = absurd is
 sequencer_wires (Seq k) is = few_by (4 * (k + 1 + k) + 1) (sequencer_circuit k) (nat_lt k 3) (circuit_few k)
 
 -- what an answer with the layer has
-pub split_result : {E : Type 0} → Right → (k : Kind) → IsSequencer k → IsWellFormed k → (r : Result (Option Circuit) E) → IfOk r (λ net. net ≡ sequencer_layer k) → IfOk r (IsSplitOf k)
-split_result right k is formed (Ok net) e = subst (IsSplitOf k) (sym e) (sequencer_splits right k is formed)
-split_result right k is formed (Err x) e = e
+pub split_result : {E : Type 0} (k : Kind) → IsSequencer k → IsWellFormed k → (r : Result (Option Circuit) E) → IfOk r (λ net. net ≡ sequencer_layer k) → IfOk r (IsSplitOf k)
+split_result k is formed (Ok net) e = subst (IsSplitOf k) (sym e) (sequencer_splits k is formed)
+split_result k is formed (Err x) e = e
 
 pub wires_result : {E : Type 0} (k : Kind) → IsSequencer k → (r : Result (Option Circuit) E) → IfOk r (λ net. net ≡ sequencer_layer k)
     → IfOk r (λ net. IfSome net (λ c. c.wires ≤ 4 * (inputs_of k + outputs_of k) + 1))

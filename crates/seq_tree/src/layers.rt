@@ -8,7 +8,6 @@ ghost use Rattle.seq_tree.specs.SequencerLayer.{IsSequencer, IsSequencerLayer, s
 ghost use Rattle.seq_tree.specs.Mirror.GroupNodes.{IsLow, group_of, outer_nodes};
 
 use crate::groups::{Group, component};
-use crate::laws::sequencer_law;
 use basic_kinds::Kind;
 use net_core::{Net, Node};
 use net_laws::numbers;
@@ -69,7 +68,6 @@ fn layer(alloc: Global, requests: u32) -> Result<Net, AllocError>
     requires formed { IsWellFormed (Seq requests) }
     ensures { IfOk result (λ net. net ≡ sequencer_circuit requests) }
 {
-    sequencer_law();
     let (first, rest) = groups(requests);
     let mut nodes = outer_nodes(alloc, requests, first, rest)?;
     nodes.append(&mut first.nodes(alloc)?)?;
@@ -116,6 +114,5 @@ pub fn split(alloc: Global, kind: &Kind) -> Result<Option<Net>, AllocError>
     ensures net { IfOk result (IsSequencerLayer kind.now) }
     ensures few { IfOk result (λ net. IfSome net (λ it. it.wires ≤ 4 * (inputs_of kind.now + outputs_of kind.now) + 1)) }
 {
-    sequencer_law();
     layer_of(alloc, kind)
 }

@@ -7,6 +7,7 @@ use Rattle.seq_tree.specs.declared.groups.Group.{Group}
 use Rattle.seq_tree.specs.Mirror.GroupNodes.{group_of, group_nodes, inside, outer_nodes}
 use Rattle.seq_tree.specs.SequencerLayer.{sequencer_circuit}
 use Rattle.seq_tree.proofs.GroupNumbers.{half_range, nodes_few, same_circuit}
+use Rattle.seq_tree.proofs.SequencerLaw.{sequencer_right}
 use Rattle.seq_tree.proofs.layers.layer.Goals as goal
 
 -- what stands before the call
@@ -29,14 +30,14 @@ of_nodes-requires-clause-wired c =
     let k = c.args.requests in
     let whole = made k _ _ _ _ _ _ _ _ c.groups.ensures.first c.groups.ensures.rest c.in_ok-nodes.ensures c.in_ok-nodes-2.ensures c.in_ok-nodes-3.ensures c.in_ok-append.ensures.items
     c.in_ok-append-2.ensures.items c.inside.ensures in
-    subst (λ (d : Circuit). AllByRecursion (IsWired d.wires) d.nodes) (sym whole) (c.sequencer_law.ensures k c.requires.wide c.requires.formed).correct.network.wired
+    subst (λ (d : Circuit). AllByRecursion (IsWired d.wires) d.nodes) (sym whole) (sequencer_right k c.requires.wide c.requires.formed).correct.network.wired
 
 pub of_nodes-requires-clause-closed : goal.of_nodes-requires-clause-closed
 of_nodes-requires-clause-closed c =
     let k = c.args.requests in
     let whole = made k _ _ _ _ _ _ _ _ c.groups.ensures.first c.groups.ensures.rest c.in_ok-nodes.ensures c.in_ok-nodes-2.ensures c.in_ok-nodes-3.ensures c.in_ok-append.ensures.items
     c.in_ok-append-2.ensures.items c.inside.ensures in
-    subst IsClosed (sym whole) (c.sequencer_law.ensures k c.requires.wide c.requires.formed).correct.closed
+    subst IsClosed (sym whole) (sequencer_right k c.requires.wide c.requires.formed).correct.closed
 
 pub returns : goal.returns
 returns c =
