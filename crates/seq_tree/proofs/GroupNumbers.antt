@@ -10,7 +10,7 @@ use Rattle.net_laws.specs.Charts.{Chart, node_of, charted}
 use Rattle.net_laws.proofs.Rows.{number_row, range_both}
 use Rattle.seq_tree.specs.SequencerLayer.{Wire, Request, Grant, Token, Chosen, Ask, Row, Won, Back, Call, Give, Return, Free, Name, Env, Outer, Inner, Calls, Wait, Returns, Gate, Spread, Share, by_size, row, size, before, column_wait, ports_at, base, number_of, group, components, sequencer_chart, sequencer_circuit}
 use Rattle.seq_tree.specs.declared.groups.Group.{Group}
-use Rattle.seq_tree.specs.Mirror.GroupNodes.{IsLow, group_of, component_node, into_one, in_and_out, fork_at, fork_nodes, single_nodes, group_nodes, call_wire, give_wire, inside, outer_nodes}
+use Rattle.seq_tree.specs.Mirror.GroupNodes.{IsLow, group_of, component_node, into_one, in_and_out, fork_at, fork_nodes, single_nodes, group_nodes, call_wire, give_wire, end_wire, outer_nodes}
 
 -- ---- halves
 
@@ -140,16 +140,22 @@ module _ (h r : ℕ) where
 
 -- ---- what the code makes
 
+end_is : (n b m : ℕ) → by_size n b (b + m) ≡ b + by_size n 0 m
+end_is zero b m = omega arith
+end_is (suc zero) b m = omega arith
+end_is (suc (suc n)) b m = refl
+
 pub same_circuit : (k : ℕ) (items : List Node) (wires : ℕ)
     → items ≡ (outer_nodes k (group_of (half k) (k - half k) 0) (group_of (half k) (k - half k) 1) ++ group_nodes (group_of (half k) (k - half k) 0)) ++ group_nodes (group_of (half k) (k - half k) 1)
-    → wires ≡ base (half k) (k - half k) 1 + inside (group_of (half k) (k - half k) 1)
+    → wires ≡ end_wire (group_of (half k) (k - half k) 1)
     → ◌≡◌ {A = Circuit} (record { nodes = items; wires = wires }) (sequencer_circuit k)
 same_circuit k items wires nodes many =
     let h : ℕ = half k in
     let r : ℕ = k - half k in
     let all : items ≡ (sequencer_circuit k).nodes =
     nodes ∙ ap (λ m. (outer_nodes m (group_of h r 0) (group_of h r 1) ++ group_nodes (group_of h r 0)) ++ group_nodes (group_of h r 1)) (sym (halves_are k)) ∙ nodes_are h r in
-    λ i. record { nodes = all i; wires = many i }
+    let total : wires ≡ (sequencer_circuit k).wires = many ∙ end_is r (base h r 1) (5 * r + 4) in
+    λ i. record { nodes = all i; wires = total i }
 
 -- ---- how many components there are
 

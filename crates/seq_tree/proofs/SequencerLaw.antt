@@ -15,7 +15,7 @@ use Rattle.net_laws.proofs.Rows.{row, number_row}
 use Rattle.seq_tree.specs.declared.groups.Group.{Group}
 use Rattle.seq_tree.specs.SequencerLayer as layer
 use Rattle.seq_tree.specs.SequencerLayer.{by_size, column_wait, sequencer_chart, sequencer_circuit}
-use Rattle.seq_tree.specs.Mirror.GroupNodes.{group_of, component_node, into_one, in_and_out, fork_at, fork_nodes, single_nodes, group_nodes, call_wire, give_wire, inside, outer_nodes}
+use Rattle.seq_tree.specs.Mirror.GroupNodes.{group_of, component_node, into_one, in_and_out, fork_at, fork_nodes, single_nodes, group_nodes, call_wire, give_wire, outer_nodes}
 use Rattle.seq_tree.proofs.GroupNumbers.{map_map, half_range, halves_are, nodes_are}
 use Rattle.seq_tree.proofs.SequencerWires.{Wire, Request, Chosen, Ask, Row, Won, Grant, Back, Call, Give, Return, Free, Lone, Own, Token, Node, Env, Outer, Inner, Spread, Calls, Wait, Share, Returns, Gate}
 use Rattle.seq_tree.proofs.SequencerPorts as at

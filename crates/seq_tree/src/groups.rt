@@ -1,6 +1,6 @@
 //! The components of one group of requests.
 ghost use Rattle.std.specs.Prelude.{◌≡◌, ◌+◌, ◌*◌, ◌<◌, ◌≤◌, ◌^◌, [], ◌∷◌, ◌++◌, IfOk};
-ghost use Rattle.seq_tree.specs.Mirror.GroupNodes.{IsLow, call_wire, component_node, fork_nodes, give_wire, group_nodes, in_and_out, inside, into_one, single_nodes};
+ghost use Rattle.seq_tree.specs.Mirror.GroupNodes.{IsLow, call_wire, component_node, end_wire, fork_nodes, give_wire, group_nodes, in_and_out, into_one, single_nodes};
 
 use crate::columns::column_wait;
 use basic_kinds::Kind;
@@ -153,11 +153,15 @@ impl Group {
         }
     }
 
-    /// How many wires are inside the group.
-    pub fn inside(self) -> u32
+    /// The number of wires that stand before this group and inside it.
+    pub fn end(self) -> u32
         requires { IsLow self }
-        ensures { result ≡ inside self }
+        ensures { result ≡ end_wire self }
     {
-        if self.size < 2 { 0 } else { 5 * self.size + 4 }
+        if self.size < 2 {
+            self.base
+        } else {
+            self.base + (5 * self.size + 4)
+        }
     }
 }

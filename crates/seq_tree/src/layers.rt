@@ -72,8 +72,7 @@ fn layer(alloc: Global, requests: u32) -> Result<Net, AllocError>
     let mut nodes = outer_nodes(alloc, requests, first, rest)?;
     nodes.append(&mut first.nodes(alloc)?)?;
     nodes.append(&mut rest.nodes(alloc)?)?;
-    let wires = rest.base + rest.inside();
-    Net::of_nodes(alloc, nodes, wires)
+    Net::of_nodes(alloc, nodes, rest.end())
 }
 
 fn split_requests(alloc: Global, requests: u32) -> Result<Option<Net>, AllocError>

@@ -58,9 +58,9 @@ call_wire g = by_size g.size g.request (g.base + 5 * g.size)
 abbrev pub give_wire : Group → ℕ
 give_wire g = by_size g.size g.grant (g.base + 5 * g.size + 1)
 
--- how many wires are inside the group
-abbrev pub inside : Group → ℕ
-inside g = by_size g.size 0 (5 * g.size + 4)
+-- how many wires stand before the group and inside it
+abbrev pub end_wire : Group → ℕ
+end_wire g = by_size g.size g.base (g.base + (5 * g.size + 4))
 
 -- the environment and the outer SEQ, where the two groups have k requests
 abbrev pub outer_nodes : ℕ → Group → Group → List Node
