@@ -8,7 +8,7 @@ use Rattle.basic_kinds.specs.ShapeParts.{half}
 use Rattle.net_core.specs.Wiring.{Node, Circuit}
 use Rattle.net_laws.specs.Charts.{Chart, node_of, charted}
 use Rattle.net_laws.proofs.Rows.{number_row, range_both}
-use Rattle.seq_tree.specs.SequencerLayer.{Wire, Request, Grant, Token, Chosen, Ask, Row, Won, Back, Call, Give, Return, Free, Name, Env, Outer, Inner, Calls, Wait, Returns, Gate, Spread, Share, by_size, row, size, before, column_wait, ports_at, base, number_of, group, components, sequencer_chart, sequencer_circuit}
+use Rattle.seq_tree.specs.SequencerLayer.{Wire, Request, Grant, Token, Chosen, Ask, Row, Won, Back, Call, Give, Return, Free, Name, Env, Inner, Calls, Wait, Returns, Gate, Spread, Share, by_size, row, size, before, column_wait, ports_at, base, number_of, group, sequencer_chart, sequencer_circuit}
 use Rattle.seq_tree.specs.declared.groups.Group.{Group}
 use Rattle.seq_tree.specs.Mirror.GroupNodes.{IsLow, group_of, component_node, into_one, in_and_out, fork_at, fork_nodes, single_nodes, group_nodes, call_wire, give_wire, end_wire, outer_nodes}
 

@@ -1,14 +1,13 @@
 -- The rules of the kinds in a layer of a SEQ, by the lists of their wires.
-use Rattle.std.proofs.Common.{◌≡◌, ◌↔◌, ℕ, zero, suc, ◌+◌, ◌-◌, ◌<◌, ◌≤◌, true, false, ◌==◌, if◌then◌else◌, List, [], ◌∷◌, ◌++◌, map, length, get_or, ◌⊎◌, inl, inr, refl, sym, ap, subst, ◌∙◌, arith, length-append, eq-eqb, ne_eqb}
+use Rattle.std.proofs.Common.{◌≡◌, ◌↔◌, ℕ, zero, suc, ◌+◌, ◌-◌, ◌<◌, ◌==◌, if◌then◌else◌, List, [], ◌∷◌, ◌++◌, map, length, get_or, ◌⊎◌, inl, inr, refl, sym, ap, subst, ◌∙◌, arith, length-append, eq-eqb, ne_eqb}
 use Rattle.std.specs.Prelude.{slice_index_or}
 use Rattle.std.specs.List.{range_with_len}
-use Rattle.std.proofs.lemmas.Bool.{cases_lt, cases_eq}
 use Rattle.std.proofs.lemmas.List.{get_or_append_left, get_or-append_right, get_or-map, length-map}
 use Rattle.std.proofs.lemmas.List.FromFn.{length-map-range_with_len, get_or-map-range_with_len}
 use Rattle.cmd_tree.specs.Rounds.{RoundsAt}
 use Rattle.basic_kinds.specs.declared.shape.Shape.{Shape}
 use Rattle.basic_kinds.specs.declared.kind.Kind.TheVariants.{Iwire, Fork, Merge, Dw, Seq}
-use Rattle.basic_kinds.specs.KindCounts.{KindAt, GrantMay, RowMay, ColMay, OutMay, Crosses, RowPends, ColPends, row_of, col_of, row_outs, col_outs, grants_in}
+use Rattle.basic_kinds.specs.KindCounts.{KindAt, Crosses, row_of, col_of, row_outs, col_outs, grants_in}
 use Rattle.basic_kinds.specs.ShapeParts.{one_column}
 use Rattle.basic_kinds.specs.Totals.{total}
 use Rattle.basic_kinds.proofs.Totals.{total_same, total_at, total_split}
@@ -239,14 +238,14 @@ row_sum : (m : ℕ) (c : ℕ → ℕ) (i : ℕ) → i < suc m → row_outs (colu
 row_sum m c i low =
     ap (λ n. total n (λ x. if row_of (column m) x == i then c (suc m + 1 + x) else 0)) (cross_long m)
     ∙ total_at (suc m) (λ x. if row_of (column m) x == i then c (suc m + 1 + x) else 0) i low
-        (λ x near other. ap (λ b. if b then c (suc m + 1 + x) else 0) (ne_eqb (row_of (column m) x) i (λ z. other (sym (row_is m x near) ∙ z))))
+    (λ x near other. ap (λ b. if b then c (suc m + 1 + x) else 0) (ne_eqb (row_of (column m) x) i (λ z. other (sym (row_is m x near) ∙ z))))
     ∙ ap (λ b. if b then c (suc m + 1 + i) else 0) (eq-eqb (row_of (column m) i) i (row_is m i low))
 
 col_sum : (m : ℕ) (c : ℕ → ℕ) → col_outs (column m) c 0 ≡ total (suc m) (λ x. c (suc m + 1 + x))
 col_sum m c =
     ap (λ n. total n (λ x. if col_of (column m) x == 0 then c (suc m + 1 + x) else 0)) (cross_long m)
     ∙ total_same (suc m) (λ x. if col_of (column m) x == 0 then c (suc m + 1 + x) else 0) (λ x. c (suc m + 1 + x))
-        (λ x near. ap (λ b. if b then c (suc m + 1 + x) else 0) (eq-eqb (col_of (column m) x) 0 (col_is m x near)))
+    (λ x near. ap (λ b. if b then c (suc m + 1 + x) else 0) (eq-eqb (col_of (column m) x) 0 (col_is m x near)))
 
 crosses : (m i j : ℕ) → i < suc m → j < 1 → Crosses (column m) i j
 crosses m i j low near = (i, omega (arith, low, cross_long m), row_is m i low, col_is m i low ∙ (let z : 0 ≡ j = omega arith in z))

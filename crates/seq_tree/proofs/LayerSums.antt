@@ -12,7 +12,7 @@ use Rattle.net_core.specs.Renumbering.{sum_of_parts}
 use Rattle.net_laws.specs.Charts.{node_of, charted}
 use Rattle.two_way.specs.Layers.{two_way_part}
 use Rattle.seq_tree.specs.SequencerLayer.{Name, Outer, Inner, Calls, Wait, Returns, Gate, Spread, Share, by_size, size, column_wait, spec_at, group, components, sequencer_chart, sequencer_circuit}
-use Rattle.seq_tree.proofs.GroupNumbers.{half_range, halves_are}
+use Rattle.seq_tree.proofs.GroupNumbers.{half_range}
 
 -- ---- a SEQ: more layers than requests add nothing
 

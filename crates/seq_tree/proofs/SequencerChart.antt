@@ -1,32 +1,21 @@
 -- The layer of a SEQ from names to numbers, for K groups and L requests that stand alone.
-use Rattle.std.proofs.Common.{◌≡◌, ◌↔◌, ℕ, zero, suc, ◌+◌, ◌*◌, ◌<◌, ◌≤◌, ◌^◌, List, [], ◌∷◌, ◌++◌, map, length, get_or, ◌⊎◌, inl, inr, refl, sym, ap, subst, ◌∙◌, arith, length-append}
-use Rattle.std.specs.Prelude.{IsTrue}
+use Rattle.std.proofs.Common.{◌≡◌, ℕ, zero, suc, ◌+◌, ◌<◌, ◌≤◌, ◌^◌, List, [], ◌∷◌, ◌++◌, map, length, inl, inr, refl, sym, subst, ◌∙◌, arith, length-append}
 use Rattle.std.specs.List.{AllByRecursion, range_with_len}
-use Rattle.std.proofs.lemmas.List.{length-map, map-append}
+use Rattle.std.proofs.lemmas.List.{length-map}
 use Rattle.std.proofs.lemmas.List.FromFn.{length-map-range_with_len}
-use Rattle.cmd_tree.specs.Rounds.{tally, naught, Follows}
-use Rattle.basic_kinds.specs.declared.kind.Kind.TheVariants as kind
 use Rattle.basic_kinds.specs.Kinds.{inputs_of, outputs_of, IsWide}
-use Rattle.basic_kinds.specs.ShapeParts.{one_column}
 use Rattle.basic_kinds.specs.Totals.{total}
 use Rattle.basic_kinds.proofs.Totals.{total_part}
 use Rattle.net_core.specs.declared.spec.NodeSpec.TheVariants.{Kind as Basic}
-use Rattle.net_core.specs.Specs.{IsFormed, May, outs_of, is_kind}
-use Rattle.net_laws.specs.Charts.{Chart, charted}
+use Rattle.net_core.specs.Specs.{IsFormed, outs_of}
 use Rattle.net_laws.specs.ForkChain.{each}
-use Rattle.net_laws.specs.Implementing.{Implements}
-use Rattle.net_laws.proofs.Webs as webs
 use Rattle.net_laws.proofs.Among.{Among, Distinct, all_among}
-use Rattle.net_laws.proofs.Paths.{Path, here}
-use Rattle.net_laws.proofs.Routes.{Joined, Routes, routes_basic, routes_clean, routes_correct}
-use Rattle.net_laws.proofs.Rows.{row, row_among, row_all, distinct_row, number_row, range_both, among_left, among_right, all_both, distinct_both, joined_ins, joined_outs, joined_both}
-use Rattle.net_laws.proofs.Blocks.{among_each, each_among, each_all, distinct_each, number_each}
+use Rattle.net_laws.proofs.Routes.{Joined}
+use Rattle.net_laws.proofs.Rows.{row, row_among, row_all, distinct_row, among_left, among_right, all_both, distinct_both, joined_ins, joined_outs, joined_both}
+use Rattle.net_laws.proofs.Blocks.{among_each, each_among, each_all, distinct_each}
 use Rattle.seq_tree.specs.SequencerLayer.{column_wait}
-use Rattle.seq_tree.proofs.GroupNumbers.{map_map, range_on}
 use Rattle.seq_tree.proofs.SequencerWires as wires
 use Rattle.seq_tree.proofs.SequencerWires.{Wire, Request, Chosen, Ask, Row, Won, Grant, Back, Call, Give, Return, Free, Lone, Own, Token, Node, Env, Outer, Inner, Spread, Calls, Wait, Share, Returns, Gate, same_wire, driver, receiver, clean}
-use Rattle.seq_tree.proofs.SequencerSound as sound
-use Rattle.seq_tree.proofs.SequencerExact as exact
 use Rattle.seq_tree.proofs.SequencerPorts as at
 use Rattle.seq_tree.proofs.SequencerPorts.{Pair, lone, asked, called, picked, firsts, seconds, map_among, may_by}
 
@@ -125,10 +114,25 @@ module _ (K : ℕ) (size : ℕ → ℕ) (L : ℕ) where
   parts = Outer ∷ each group K
 
   pub parts_all : (Q : Node → Type 0) → ((n : Node) → Good n → (n ≡ Env → ⊥) → Q n) → AllByRecursion Q parts
-  parts_all Q h = (h Outer tt (λ e. cc), each_all group Q K (λ k near.
-      (h (Inner k) near (λ e. cc), (h (Calls k) near (λ e. cc), (h (Wait k) near (λ e. cc), (h (Returns k) near (λ e. cc), (h (Gate k) near (λ e. cc),
-      all_both Q (row (Spread k) (size k)) (row (Share k) (size k)) (row_all Q (Spread k) (size k) (λ i inside. h (Spread k i) (near, inside) (λ e. cc)))
-      (row_all Q (Share k) (size k) (λ i inside. h (Share k i) (near, inside) (λ e. cc)))))))))
+  parts_all Q h = (
+    h Outer tt (λ e. cc),
+    each_all group Q K (λ k near. (
+      h (Inner k) near (λ e. cc),
+      (
+        h (Calls k) near (λ e. cc),
+        (
+          h (Wait k) near (λ e. cc),
+          (
+            h (Returns k) near (λ e. cc),
+            (
+              h (Gate k) near (λ e. cc),
+              all_both Q (row (Spread k) (size k)) (row (Share k) (size k)) (row_all Q (Spread k) (size k) (λ i inside. h (Spread k i) (near, inside) (λ e. cc)))
+                  (row_all Q (Share k) (size k) (λ i inside. h (Share k i) (near, inside) (λ e. cc))),
+            ),
+          ),
+        ),
+      ),
+    )),
   )
 
   pub nodes_all : (Q : Node → Type 0) → ((n : Node) → Good n → Q n) → AllByRecursion Q (Env ∷ parts)

@@ -1,7 +1,6 @@
 -- The web of a layer of a SEQ is exact: each symbol that the environment may do next is served by a few inner wires.
-use Rattle.std.proofs.Common.{◌≡◌, ℕ, suc, ◌+◌, ◌<◌, ◌≤◌, ◌⊎◌, inl, inr, refl, sym, ap, ◌∙◌, arith}
+use Rattle.std.proofs.Common.{◌≡◌, ℕ, suc, ◌<◌, ◌≤◌, ◌⊎◌, inl, inr, refl, sym, ap, ◌∙◌, arith}
 use Rattle.std.proofs.lemmas.Bool.{cases_lt, cases_eq}
-use Rattle.basic_kinds.specs.Totals.{total}
 use Rattle.basic_kinds.proofs.Totals.{total_same, total_le, total_one, total_gap, total_some}
 use Rattle.net_laws.proofs.Webs.{Web, WebExact}
 use Rattle.net_laws.proofs.Told.{Flows}
@@ -110,10 +109,14 @@ module _ (K : ℕ) (size : ℕ → ℕ) (L : ℕ) where
       | inl less ↦ shown y v a less
       | inr not_yet ↦
           pull (Won k i) (λ e. cc) (λ e. cc)
-          (λ c b. inl (refl, (near, inside), (
-            omega (arith, rowed, not_yet, b.sent (Won k i) refl, b.got (Row k i) refl),
-            omega (arith, few not_yet, more, b.got (Give k) refl, group_same Won c y k (λ j. b.sent (Won k j) refl)),
-          )))
+          (λ c b. inl (
+            refl,
+            (near, inside),
+            (
+              omega (arith, rowed, not_yet, b.sent (Won k i) refl, b.got (Row k i) refl),
+              omega (arith, few not_yet, more, b.got (Give k) refl, group_same Won c y k (λ j. b.sent (Won k j) refl)),
+            ),
+          ))
           (λ z g u. shown z u (ahead y (Won k i) z g (λ q j e. cc) (λ q j e. cc) (λ j e. cc) (λ e. cc) a)
           (omega (arith, grew_same y (Won k i) z g (Won k i) refl, grew_other y (Won k i) z g (Grant k i) (λ e. cc), sound.line K size L y y (idle y) v k i)))
     ]
@@ -139,10 +142,14 @@ module _ (K : ℕ) (size : ℕ → ℕ) (L : ℕ) where
       | inl more ↦ rows y v a more
       | inr done ↦
           pull (Give k) (λ e. cc) (λ e. cc)
-          (λ c b. inl (refl, near, (
-            omega (arith, done, called, b.sent (Give k) refl, b.got (Call k) refl),
-            omega (arith, few done, a.token, b.got Token refl, sound.given_same K size L c y (λ q. b.sent (Give q) refl) (λ j. b.sent (Own j) refl)),
-          )))
+          (λ c b. inl (
+            refl,
+            near,
+            (
+              omega (arith, done, called, b.sent (Give k) refl, b.got (Call k) refl),
+              omega (arith, few done, a.token, b.got Token refl, sound.given_same K size L c y (λ q. b.sent (Give q) refl) (λ j. b.sent (Own j) refl)),
+            ),
+          ))
           (λ z g u. rows z u (ahead y (Give k) z g (λ q j e. cc) (λ q j e. cc) (λ j e. cc) (λ e. cc) a)
           (omega (
             arith,
@@ -203,10 +210,14 @@ module _ (K : ℕ) (size : ℕ → ℕ) (L : ℕ) where
     choose : (y : Wire → ℕ) → Kept y y → Waiting y → group Chosen y k < y (Free k) → Serve y
     choose y v a free =
         pull (Chosen k i) (λ e. cc) (λ e. cc)
-        (λ c b. inl (refl, (near, inside), (
-          omega (arith, a.wants, a.settled k i, b.sent (Chosen k i) refl, b.got (Request k i) refl),
-          omega (arith, free, b.got (Free k) refl, group_same Chosen c y k (λ j. b.sent (Chosen k j) refl)),
-        )))
+        (λ c b. inl (
+          refl,
+          (near, inside),
+          (
+            omega (arith, a.wants, a.settled k i, b.sent (Chosen k i) refl, b.got (Request k i) refl),
+            omega (arith, free, b.got (Free k) refl, group_same Chosen c y k (λ j. b.sent (Chosen k j) refl)),
+          ),
+        ))
         (λ z g u. asks z u (record {
           others = λ q j n.
               grew_other y (Chosen k i) z g (Chosen q j) (λ e. n (let p : q ≡ k = cc in p, let r : j ≡ i = cc in r))
@@ -273,20 +284,24 @@ module _ (K : ℕ) (size : ℕ → ℕ) (L : ℕ) where
   own : (x : Wire → ℕ) → Kept x x → Settled x → (j : ℕ) → j < L → x (Own j) < x (Lone j) → granted x < x Token → Serves (Own j) x
   own x v s j near less token =
       show refl
-      (λ c b. inl (refl, near, (
-        omega (arith, less, b.sent (Own j) refl, b.got (Lone j) refl),
-        omega (
-          arith,
-          token,
-          total_le K (λ q. x (Give q)) (group Grant x) (λ q l. omega (
+      (λ c b. inl (
+        refl,
+        near,
+        (
+          omega (arith, less, b.sent (Own j) refl, b.got (Lone j) refl),
+          omega (
             arith,
-            sound.ring K size L x x (idle x) v q,
-            total_same (size q) (λ n. x (Chosen q n)) (λ n. x (Grant q n)) (λ n m. s q n),
-          )),
-          b.got Token refl,
-          sound.given_same K size L c x (λ q. b.sent (Give q) refl) (λ n. b.sent (Own n) refl),
+            token,
+            total_le K (λ q. x (Give q)) (group Grant x) (λ q l. omega (
+              arith,
+              sound.ring K size L x x (idle x) v q,
+              total_same (size q) (λ n. x (Chosen q n)) (λ n. x (Grant q n)) (λ n m. s q n),
+            )),
+            b.got Token refl,
+            sound.given_same K size L c x (λ q. b.sent (Give q) refl) (λ n. b.sent (Own n) refl),
+          ),
         ),
-      )))
+      ))
       (λ z g u. λ q n. grew_other x (Own j) z g (Chosen q n) (λ e. cc) ∙ s q n ∙ sym (grew_other x (Own j) z g (Grant q n) (λ e. cc)))
 
   -- ---- all symbols

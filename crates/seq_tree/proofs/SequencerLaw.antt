@@ -1,7 +1,6 @@
 -- The layer of a SEQ implements it: with two groups, or with one group and a request that stands alone.
-use Rattle.std.proofs.Common.{◌≡◌, ℕ, zero, suc, ◌+◌, ◌*◌, ◌-◌, ◌<◌, ◌≤◌, ◌^◌, List, [], ◌∷◌, ◌++◌, map, inl, inr, refl, sym, ap, subst, ◌∙◌, arith, append_assoc}
+use Rattle.std.proofs.Common.{◌≡◌, ℕ, zero, suc, ◌+◌, ◌*◌, ◌-◌, ◌<◌, ◌≤◌, ◌^◌, List, [], ◌∷◌, ◌++◌, map, refl, sym, ap, subst, ◌∙◌, arith, append_assoc}
 use Rattle.std.specs.List.{range_with_len}
-use Rattle.std.proofs.lemmas.Bool.{cases_lt}
 use Rattle.std.proofs.lemmas.List.{map-append}
 use Rattle.basic_kinds.specs.declared.kind.Kind.TheVariants as kind
 use Rattle.basic_kinds.specs.Kinds.{IsWellFormed}
@@ -15,9 +14,9 @@ use Rattle.net_laws.proofs.Rows.{row, number_row}
 use Rattle.seq_tree.specs.declared.groups.Group.{Group}
 use Rattle.seq_tree.specs.SequencerLayer as layer
 use Rattle.seq_tree.specs.SequencerLayer.{by_size, column_wait, sequencer_chart, sequencer_circuit}
-use Rattle.seq_tree.specs.Mirror.GroupNodes.{group_of, component_node, into_one, in_and_out, fork_at, fork_nodes, single_nodes, group_nodes, call_wire, give_wire, outer_nodes}
+use Rattle.seq_tree.specs.Mirror.GroupNodes.{group_of, component_node, into_one, in_and_out, fork_nodes, single_nodes, group_nodes, call_wire, give_wire, outer_nodes}
 use Rattle.seq_tree.proofs.GroupNumbers.{map_map, half_range, halves_are, nodes_are}
-use Rattle.seq_tree.proofs.SequencerWires.{Wire, Request, Chosen, Ask, Row, Won, Grant, Back, Call, Give, Return, Free, Lone, Own, Token, Node, Env, Outer, Inner, Spread, Calls, Wait, Share, Returns, Gate}
+use Rattle.seq_tree.proofs.SequencerWires.{Wire, Ask, Row, Won, Back, Call, Give, Return, Free, Lone, Own, Node, Env, Inner, Spread, Share, Gate}
 use Rattle.seq_tree.proofs.SequencerPorts as at
 use Rattle.seq_tree.proofs.SequencerPorts.{Pair, picked, firsts, seconds}
 use Rattle.seq_tree.proofs.SequencerChart as nodes
@@ -101,7 +100,7 @@ module _ (K : ℕ) (size : ℕ → ℕ) (L : ℕ) where
       let returns = ends_into_one n (b + 4 * n) (Back k) (Return k) (λ i l. refl) in
       let forks = forks_are k in
       λ i. component_node (kind.Seq n) (inner i) ∷ component_node (kind.Merge n) (calls i) ∷ component_node (column_wait n) (wait i)
-          ∷ component_node (kind.Merge n) (returns i) ∷ node (Gate k) ∷ forks i
+      ∷ component_node (kind.Merge n) (returns i) ∷ node (Gate k) ∷ forks i
 
 group_whole : (g : Group) → 2 ≤ g.size → full_nodes g ≡ group_nodes g
 group_whole g more = sym (by_more g.size [] (full_nodes g) more)

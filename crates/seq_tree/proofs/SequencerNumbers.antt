@@ -1,9 +1,9 @@
 -- The layer of K groups and L requests that stand alone implements the SEQ of them all.
-use Rattle.std.proofs.Common.{◌≡◌, ◌↔◌, ℕ, zero, suc, ◌+◌, ◌*◌, ◌<◌, ◌≤◌, ◌^◌, List, [], ◌∷◌, ◌++◌, map, length, get_or, ◌⊎◌, inl, inr, refl, sym, ap, subst, ◌∙◌, arith}
+use Rattle.std.proofs.Common.{◌≡◌, ◌↔◌, ℕ, ◌+◌, ◌*◌, ◌<◌, ◌≤◌, ◌^◌, List, [], ◌∷◌, ◌++◌, map, get_or, inl, inr, refl, sym, ap, subst, ◌∙◌, arith}
 use Rattle.std.specs.Prelude.{IsTrue}
 use Rattle.std.specs.List.{AllByRecursion, range_with_len}
 use Rattle.std.proofs.lemmas.List.{map-append}
-use Rattle.cmd_tree.specs.Rounds.{tally, naught, Follows}
+use Rattle.cmd_tree.specs.Rounds.{tally, naught}
 use Rattle.basic_kinds.specs.declared.kind.Kind.TheVariants as kind
 use Rattle.basic_kinds.specs.Totals.{total}
 use Rattle.net_core.specs.declared.spec.NodeSpec.TheVariants.{Kind as Basic}
@@ -242,7 +242,7 @@ module _ (K : ℕ) (size : ℕ → ℕ) (L : ℕ) where
       (λ x i j.
       let second : side_of x ≡ 2 = all_among (λ w. side_of w ≡ 2) (seconds ps) high x j in
       let first : side_of x < 2 = all_among (λ w. side_of w < 2) (firsts ps ++ t ∷ [])
-          (all_both (λ w. side_of w < 2) (firsts ps) (t ∷ []) (at.firsts_all K size L (λ w. side_of w < 2) ps (lower ps f)) (omega (arith, e), tt)) x i in
+      (all_both (λ w. side_of w < 2) (firsts ps) (t ∷ []) (at.firsts_all K size L (λ w. side_of w < 2) ps (lower ps f)) (omega (arith, e), tt)) x i in
       omega arith)
     where
       lower : (qs : List Pair) → AllByRecursion (λ (p : Pair). side_of p.0 ≡ 0) qs → AllByRecursion (λ (p : Pair). side_of p.0 < 2) qs
@@ -294,7 +294,7 @@ module _ (K : ℕ) (size : ℕ → ℕ) (L : ℕ) where
       (λ x i j.
       let second : wire_rank x ≡ 4 = all_among (λ w. wire_rank w ≡ 4) (row (Won k) (size k)) (row_all (λ w. wire_rank w ≡ 4) (Won k) (size k) (λ q l. refl)) x j in
       let first : wire_rank x ≡ 4 → ⊥ = all_among (λ w. wire_rank w ≡ 4 → ⊥) (row (Row k) (size k) ++ Give k ∷ [])
-          (all_both (λ w. wire_rank w ≡ 4 → ⊥) (row (Row k) (size k)) (Give k ∷ []) (row_all (λ w. wire_rank w ≡ 4 → ⊥) (Row k) (size k) (λ q l e. omega arith)) ((λ e. omega arith), tt)) x i in
+      (all_both (λ w. wire_rank w ≡ 4 → ⊥) (row (Row k) (size k)) (Give k ∷ []) (row_all (λ w. wire_rank w ≡ 4 → ⊥) (Row k) (size k) (λ q l e. omega arith)) ((λ e. omega arith), tt)) x i in
       first second)
   ports_once (Share k i) = three (Won k i) (Grant k i) (Back k i) (λ e. omega arith) (λ e. omega arith) (λ e. omega arith)
   ports_once (Returns k) = row_one (Back k) (size k) (Return k) 6 (λ i j e. cc) (λ i. refl) (λ e. omega arith)

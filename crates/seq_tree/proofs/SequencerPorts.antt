@@ -1,7 +1,6 @@
 -- The ports of each node of the layer of a SEQ, and the rule of its kind.
-use Rattle.std.proofs.Common.{◌≡◌, ◌↔◌, ℕ, zero, suc, ◌+◌, ◌<◌, ◌≤◌, ◌^◌, List, [], ◌∷◌, ◌++◌, map, length, get_or, ◌⊎◌, inl, inr, refl, sym, ap, subst, ◌∙◌, arith, append_assoc, length-append}
+use Rattle.std.proofs.Common.{◌≡◌, ◌↔◌, ℕ, zero, suc, ◌+◌, ◌<◌, List, [], ◌∷◌, ◌++◌, map, length, get_or, ◌⊎◌, inl, inr, refl, sym, ap, subst, ◌∙◌, arith, append_assoc, length-append}
 use Rattle.std.specs.List.{AllByRecursion, range_with_len}
-use Rattle.std.proofs.lemmas.List.{length-map, map-append}
 use Rattle.std.proofs.lemmas.List.FromFn.{length-map-range_with_len}
 use Rattle.cmd_tree.specs.Rounds.{tally, naught, Follows}
 use Rattle.cmd_tree.proofs.RoundsRule.{follows_by}
@@ -9,14 +8,13 @@ use Rattle.basic_kinds.specs.declared.kind.Kind.{Kind}
 use Rattle.basic_kinds.specs.declared.kind.Kind.TheVariants as kind
 use Rattle.basic_kinds.specs.Kinds.{inputs_of, outputs_of, IsWide}
 use Rattle.basic_kinds.specs.Totals.{total}
-use Rattle.basic_kinds.proofs.Totals.{total_same, total_part}
+use Rattle.basic_kinds.proofs.Totals.{total_same}
 use Rattle.net_core.specs.declared.spec.NodeSpec.TheVariants.{Kind as Basic}
-use Rattle.net_core.specs.Specs.{IsFormed, May}
+use Rattle.net_core.specs.Specs.{May}
 use Rattle.net_laws.specs.ForkChain.{each}
-use Rattle.net_laws.proofs.Webs.{Web}
 use Rattle.net_laws.proofs.Among.{Among, Distinct, all_among, all_map}
-use Rattle.net_laws.proofs.Rows.{row, among_row, row_among, row_all, among_left, among_right, among_either, all_both}
-use Rattle.net_laws.proofs.Blocks.{among_each, each_among, each_all, each_long}
+use Rattle.net_laws.proofs.Rows.{row, among_row, row_among, row_all, among_left, among_right, all_both}
+use Rattle.net_laws.proofs.Blocks.{each_among, each_all, each_long}
 use Rattle.net_laws.proofs.KindRules.{KindOn, kind_spec}
 use Rattle.seq_tree.specs.SequencerLayer.{column_wait}
 use Rattle.seq_tree.proofs.KindLists.{summed, ForkOn, fork_on, IwireOn, iwire_on, MergeOn, merge_on, SeqOn, seq_on, WaitOn, wait_on}

@@ -1,11 +1,11 @@
 -- The web of a layer of a SEQ is sound.
-use Rattle.std.proofs.Common.{◌≡◌, ℕ, zero, suc, ◌+◌, ◌<◌, ◌≤◌, List, ◌⊎◌, inl, inr, refl, sym, ap, subst, ◌∙◌, arith}
-use Rattle.std.proofs.lemmas.Bool.{cases_lt, cases_eq}
+use Rattle.std.proofs.Common.{◌≡◌, ℕ, zero, suc, ◌+◌, ◌<◌, ◌≤◌, ◌⊎◌, inl, inr, refl, sym, subst, ◌∙◌, arith}
+use Rattle.std.proofs.lemmas.Bool.{cases_eq}
 use Rattle.basic_kinds.specs.Totals.{total}
-use Rattle.basic_kinds.proofs.Totals.{total_none, total_same, total_le, total_one, total_gap, total_some, only_one, all_same}
+use Rattle.basic_kinds.proofs.Totals.{total_none, total_same, total_le, total_gap, total_some, only_one, all_same}
 use Rattle.net_laws.proofs.Webs.{Web, WebSound}
 use Rattle.net_laws.proofs.Told.{Flows}
-use Rattle.net_laws.proofs.Woven.{Grew, grew_same, grew_le, grew_other, Reads, Keeps, web_sound}
+use Rattle.net_laws.proofs.Woven.{Grew, grew_le, Reads, Keeps, web_sound}
 use Rattle.seq_tree.proofs.SequencerWires as wires
 use Rattle.seq_tree.proofs.SequencerWires.{Wire, Request, Chosen, Ask, Row, Won, Grant, Back, Call, Give, Return, Free, Lone, Own, Token, Node, driver, receiver}
 
@@ -112,8 +112,21 @@ module _ (K : ℕ) (size : ℕ → ℕ) (L : ℕ) where
         × (P (Request k i) ≤ F (Request k i)) × (P (Chosen k i) ≤ F (Chosen k i)) × (P (Ask k i) ≤ F (Ask k i)) × (P (Row k i) ≤ F (Row k i))
         × (P (Won k i) ≤ F (Won k i)) × (P (Grant k i) ≤ F (Grant k i)) × (P (Back k i) ≤ F (Back k i))
     line k i = (
-      v.each (Request k i), v.each (Chosen k i), v.each (Ask k i), v.each (Row k i), v.each (Won k i), v.asked k i, v.each (Grant k i), v.each (Back k i),
-      low (Request k i), low (Chosen k i), low (Ask k i), low (Row k i), low (Won k i), low (Grant k i), low (Back k i),
+      v.each (Request k i),
+      v.each (Chosen k i),
+      v.each (Ask k i),
+      v.each (Row k i),
+      v.each (Won k i),
+      v.asked k i,
+      v.each (Grant k i),
+      v.each (Back k i),
+      low (Request k i),
+      low (Chosen k i),
+      low (Ask k i),
+      low (Row k i),
+      low (Won k i),
+      low (Grant k i),
+      low (Back k i),
     )
 
     -- of a group, the ring from its SEQ over the outer one and back
@@ -123,12 +136,26 @@ module _ (K : ℕ) (size : ℕ → ℕ) (L : ℕ) where
         × (group Won F k ≤ P (Give k)) × (P (Give k) ≤ F (Give k)) × (F (Give k) ≤ P (Call k)) × (P (Call k) ≤ F (Call k)) × (F (Call k) ≤ group Ask P k)
         × (group Ask P k ≤ group Ask F k) × (group Ask F k ≤ group Chosen P k) × (group Grant P k ≤ group Grant F k) × (group Grant F k ≤ group Won P k)
     ring k = (
-      v.chosen k, low (Free k), v.each (Free k), low (Return k),
-      v.each (Return k), group_le Back Back P F k (λ i. low (Back k i)), group_le Back Won F P k (λ i. v.each (Back k i)), group_le Won Won P F k (λ i. low (Won k i)),
-      group_le Won Row F P k (λ i. v.each (Won k i)), group_le Row Row P F k (λ i. low (Row k i)), group_le Row Chosen F P k (λ i. v.each (Row k i)),
+      v.chosen k,
+      low (Free k),
+      v.each (Free k),
+      low (Return k),
+      v.each (Return k),
+      group_le Back Back P F k (λ i. low (Back k i)),
+      group_le Back Won F P k (λ i. v.each (Back k i)),
+      group_le Won Won P F k (λ i. low (Won k i)),
+      group_le Won Row F P k (λ i. v.each (Won k i)),
+      group_le Row Row P F k (λ i. low (Row k i)),
+      group_le Row Chosen F P k (λ i. v.each (Row k i)),
       group_le Chosen Chosen P F k (λ i. low (Chosen k i)),
-      v.won k, low (Give k), v.each (Give k), low (Call k), v.each (Call k),
-      group_le Ask Ask P F k (λ i. low (Ask k i)), group_le Ask Chosen F P k (λ i. v.each (Ask k i)), group_le Grant Grant P F k (λ i. low (Grant k i)),
+      v.won k,
+      low (Give k),
+      v.each (Give k),
+      low (Call k),
+      v.each (Call k),
+      group_le Ask Ask P F k (λ i. low (Ask k i)),
+      group_le Ask Chosen F P k (λ i. v.each (Ask k i)),
+      group_le Grant Grant P F k (λ i. low (Grant k i)),
       group_le Grant Won F P k (λ i. v.each (Grant k i)),
     )
 
@@ -226,7 +253,7 @@ module _ (K : ℕ) (size : ℕ → ℕ) (L : ℕ) where
                 let alone : F (Chosen k q) ≡ F (Won k q) = only_one (size k) (λ j. F (Won k j)) (λ j. F (Chosen k j)) (λ j l. omega (arith, line k j)) (omega (arith, ring k)) i inside
                 (omega (arith, guard (Won k i) a g, line k i)) q near other in
                 omega (arith, alone, less, line k q)
-              )
+                )
           ]
 
     -- ---- a wire that fires

@@ -1,5 +1,5 @@
 -- The layer of a SEQ is a split of it: correct, of lighter components, and with the sums of the kind.
-use Rattle.std.proofs.Common.{◌≡◌, ℕ, zero, suc, ◌+◌, ◌*◌, ◌-◌, ◌<◌, ◌≤◌, ◌^◌, Bool, true, false, List, [], ◌∷◌, ◌++◌, map, Option, None, Some, Result, Ok, Err, refl, sym, subst, ◌∙◌, arith, nat_lt, if◌then◌else◌}
+use Rattle.std.proofs.Common.{◌≡◌, ℕ, zero, suc, ◌+◌, ◌*◌, ◌-◌, ◌<◌, ◌≤◌, Bool, true, false, List, [], ◌∷◌, ◌++◌, map, Option, None, Some, Result, Ok, Err, refl, sym, subst, ◌∙◌, arith, nat_lt, if◌then◌else◌}
 use Rattle.std.specs.Prelude.{IfOk}
 use Rattle.std.specs.List.{AllByRecursion, range_with_len}
 use Rattle.std.specs.Option.{IfSome}
@@ -9,7 +9,6 @@ use Rattle.basic_kinds.specs.declared.kind.Kind.{Kind}
 use Rattle.basic_kinds.specs.declared.kind.Kind.TheVariants.{Wire, Iwire, Source, Sink, Fork, C, Merge, Toggle, Dw, Seq}
 use Rattle.basic_kinds.specs.Kinds.{IsWellFormed, inputs_of, outputs_of}
 use Rattle.basic_kinds.specs.ShapeParts.{half}
-use Rattle.net_core.specs.declared.spec.NodeSpec.{NodeSpec}
 use Rattle.net_core.specs.declared.spec.NodeSpec.TheVariants.{Kind as Basic}
 use Rattle.net_core.specs.Wiring.{Circuit}
 use Rattle.net_laws.specs.Charts.{node_of}
@@ -17,7 +16,7 @@ use Rattle.net_laws.specs.Implementing.{Implements}
 use Rattle.net_laws.proofs.Rows.{row_all, all_both}
 use Rattle.two_way.specs.TwoWay.{is_two_way}
 use Rattle.two_way.specs.Layers.{IsLighter, IsLayerOf, IsSplitOf}
-use Rattle.seq_tree.specs.SequencerLayer.{Name, Outer, Inner, Calls, Wait, Returns, Gate, Spread, Share, IsSequencer, by_size, size, column_wait, spec_at, base, group, components, sequencer_chart, sequencer_circuit, sequencer_layer}
+use Rattle.seq_tree.specs.SequencerLayer.{Name, Inner, Calls, Wait, Returns, Gate, Spread, Share, IsSequencer, by_size, size, column_wait, spec_at, base, group, components, sequencer_chart, sequencer_circuit, sequencer_layer}
 use Rattle.seq_tree.proofs.GroupNumbers.{half_range}
 use Rattle.seq_tree.proofs.LayerSums.{sums_same}
 use Rattle.seq_tree.proofs.SequencerLaw.{sequencer_right}

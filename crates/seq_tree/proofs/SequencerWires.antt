@@ -1,6 +1,6 @@
 -- The web of a layer of a SEQ: its wires, its nodes, and what each node may do next. There are K groups of requests, the group k of
 -- size k, and L requests that stand alone, each with wires of its own.
-use Rattle.std.proofs.Common.{◌≡◌, ℕ, suc, ◌+◌, ◌<◌, Bool, List, ◌⊎◌, inl, inr, refl, sym}
+use Rattle.std.proofs.Common.{◌≡◌, ℕ, ◌+◌, ◌<◌, Bool, ◌⊎◌, inl, inr, sym}
 use native.Mathlib.Decide.{ℕ_discrete}
 use Rattle.cmd_tree.specs.Rounds.{tally, naught}
 use Rattle.basic_kinds.specs.Totals.{total}

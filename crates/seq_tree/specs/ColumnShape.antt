@@ -1,8 +1,8 @@
 -- So many rows with one column and all crossings are a shape.
-use Rattle.std.specs.Prelude.{◌≡◌, ℕ, zero, suc, ◌+◌, ◌<◌, ◌≤◌, Bool, true, false, ◌&&◌, ◌||◌, nat_lt, nat_eq, List, [], ◌∷◌, map}
+use Rattle.std.specs.Prelude.{◌≡◌, ℕ, zero, suc, ◌+◌, ◌<◌, Bool, true, false, ◌&&◌, ◌||◌, nat_lt, nat_eq, List, map}
 use Rattle.std.specs.List.{list_all, list_any, range_with_len}
 use Rattle.std.proofs.Common.{refl, sym, ap, subst, ◌∙◌, true≢false, add-one, zero-le}
-use Rattle.std.proofs.Math.Nat.{add-zero, zero-add, add-suc, suc-add, le-add_right, lt-suc_self, lt_trans, lt_of_le_of_lt, lt_of_lt_of_le, le_of_suc-le-suc, zero-lt-suc, not-suc-le-zero, le_antisymm}
+use Rattle.std.proofs.Math.Nat.{add-zero, zero-add, add-suc, suc-add, le-add_right, lt-suc_self, lt_trans, lt_of_le_of_lt, le_of_suc-le-suc, zero-lt-suc, not-suc-le-zero, le_antisymm}
 use Rattle.std.proofs.lemmas.Bool.{lt-ltb, eq-eqb}
 use Rattle.basic_kinds.specs.Shapes.{IsShape, is_before, is_rising, is_within}
 use Rattle.basic_kinds.specs.ShapeParts.{one_column}

@@ -1,7 +1,5 @@
-use Rattle.std.proofs.Common.{◌≡◌, ℕ, ◌+◌, ◌-◌, ◌*◌, ◌/◌, arith}
-use Rattle.basic_kinds.specs.ShapeParts.{half}
+use Rattle.std.proofs.Common.{◌≡◌, ℕ, arith}
 use Rattle.seq_tree.specs.declared.groups.Group.{Group}
-use Rattle.seq_tree.specs.Mirror.GroupNodes.{group_of}
 use Rattle.seq_tree.proofs.GroupNumbers.{half_is, rest_is, half_range}
 use Rattle.seq_tree.proofs.layers.groups.Goals as goal
 

@@ -1,4 +1,4 @@
-use Rattle.std.proofs.Common.{◌≡◌, ◌+◌, ◌-◌, ℕ, List, ◌++◌, length, sym, ap, subst, ◌∙◌, arith}
+use Rattle.std.proofs.Common.{◌≡◌, ◌-◌, ℕ, List, ◌++◌, length, sym, ap, subst, ◌∙◌, arith}
 use Rattle.std.specs.Prelude.{IfOk}
 use Rattle.std.specs.List.{AllByRecursion}
 use Rattle.basic_kinds.specs.ShapeParts.{half}
@@ -6,7 +6,7 @@ use Rattle.net_core.specs.Wiring.{Node, Circuit, IsWired, IsClosed}
 use Rattle.seq_tree.specs.declared.groups.Group.{Group}
 use Rattle.seq_tree.specs.Mirror.GroupNodes.{group_of, group_nodes, end_wire, outer_nodes}
 use Rattle.seq_tree.specs.SequencerLayer.{sequencer_circuit}
-use Rattle.seq_tree.proofs.GroupNumbers.{half_range, nodes_few, same_circuit}
+use Rattle.seq_tree.proofs.GroupNumbers.{nodes_few, same_circuit}
 use Rattle.seq_tree.proofs.SequencerLaw.{sequencer_right}
 use Rattle.seq_tree.proofs.layers.layer.Goals as goal
 
