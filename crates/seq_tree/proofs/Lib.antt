@@ -1,0 +1,12 @@
+pub mod ColumnWaits
+pub mod GroupNumbers
+pub mod KindLists
+pub mod LayerSums
+pub mod SequencerChart
+pub mod SequencerExact
+pub mod SequencerLaw
+pub mod SequencerNumbers
+pub mod SequencerPorts
+pub mod SequencerSound
+pub mod SequencerSplits
+pub mod SequencerWires

@@ -1,0 +1,3 @@
+pub mod ColumnShape
+pub mod SequencerLayer
+pub mod Mirror

@@ -1,0 +1,2 @@
+-- Mirrors of what the code keeps, which nobody has to believe.
+pub mod GroupNodes
