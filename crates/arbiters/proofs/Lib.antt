@@ -1,0 +1,4 @@
+pub mod Ranges
+pub mod SymbolNames
+pub mod Limits
+pub mod Grammar

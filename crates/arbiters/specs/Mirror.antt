@@ -1,0 +1,2 @@
+-- What the proofs of the code need, and nobody has to believe.
+pub mod Loans
